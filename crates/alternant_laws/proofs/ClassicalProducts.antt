@@ -12,8 +12,9 @@ use Rattle.sym_model.specs.Products.{schur_product, nonzero, classical_product}
 use Rattle.sym_model.proofs.Sums.{total_none, total_only, total_map, Among-select, Among_from_select, Among_from_map, Once-select, Once-map}
 use Rattle.sym_model.proofs.Exponents.{same_refl, same_apart, size-join}
 use Rattle.sym_model.proofs.PartitionLists.{partitions_of-tells, Among-partitions_of, FallsLexicographically-partitions_within, Once-FallsLexicographically}
-use Rattle.alternant_laws.proofs.Degrees.{OfDegree, coefficient-other_degree, times-of_degree, alternant-of_degree, schur_product-of_degree}
+use Rattle.alternant_laws.proofs.Degrees.{coefficient-other_degree, times-of_degree, alternant-of_degree, schur_product-of_degree}
 use lib.IntN.{+ℤ_idl}
+use Rattle.independence_laws.proofs.Degrees.{OfDegree}
 
 coefficient-nonzero : (terms : WholeTerms) (α : List ℕ) → coefficient (nonzero terms) α ≡ coefficient terms α
 coefficient-nonzero [] α = refl

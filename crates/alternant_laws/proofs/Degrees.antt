@@ -15,28 +15,13 @@ use Rattle.sym_model.specs.Bounded.{AreLetters}
 use Rattle.sym_model.proofs.Contents.{size-content}
 use Rattle.sym_model.proofs.Tableaux.{word_tells}
 use Rattle.sym_model.proofs.Parts.{size-zeros}
-
--- `OfDegree d f`: every term of f has degree d
-abbrev pub OfDegree : ℕ → Poly → Type 0
-OfDegree d f = (t : Term) → Among t f → size t.0 ≡ d
+pub use Rattle.independence_laws.proofs.Degrees.{times-of_degree}
+use Rattle.independence_laws.proofs.Degrees.{OfDegree, one-of_degree}
 
 pub coefficient-other_degree : (d : ℕ) (f : Poly) (α : List ℕ) → OfDegree d f → (size α ≡ d → ⊥) → coefficient f α ≡ pos 0
 coefficient-other_degree d f α h other =
     total_none (λ (t : Term). cond (same t.0 α) t.1 (pos 0)) f
     (λ t m. cond-false (same t.0 α) t.1 (pos 0) (same_apart t.0 α (λ e. other (ap size (sym e) ∙ h t m))))
-
-pub times-of_degree : (d e : ℕ) (f g : Poly) → OfDegree d f → OfDegree e g → OfDegree (d + e) (times f g)
-times-of_degree d e f g h k t m =
-    let s = Among_from_each (λ (s : Term). map (λ (t : Term). (join s.0 t.0, s.1 *ℤ t.1)) g) t f m in
-    let u = Among_from_map (λ (u : Term). (join s.0.0 u.0, s.0.1 *ℤ u.1)) t g s.2 in
-    let left : size s.0.0 ≡ d = h s.0 s.1 in
-    let right : size u.0.0 ≡ e = k u.0 u.1 in
-    let joined : size t.0 ≡ size (join s.0.0 u.0.0) = ap (λ (v : Term). size v.0) u.2 in
-    joined ∙ (size-join s.0.0 u.0.0 ∙ (omega arith))
-
-one-of_degree : (n : ℕ) → OfDegree 0 (one n)
-one-of_degree n t (inl e) = ap (λ (v : Term). size v.0) e ∙ size-zeros n
-one-of_degree n t (inr m) = absurd m
 
 insertions-size : (f : ℕ → ℕ) (x : ℕ) (ys w : List ℕ) → Among w (insertions x ys) → size (map f w) ≡ f x + size (map f ys)
 insertions-size f x [] w (inl e) = ap (λ v. size (map f v)) e

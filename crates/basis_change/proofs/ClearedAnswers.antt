@@ -11,9 +11,9 @@ use Rattle.std.specs.Int.{◌∣◌}
 use Rattle.std.proofs.lemmas.Int.{unsigned_abs-mul}
 use Rattle.std.proofs.lemmas.Bool.{cases_lt}
 use Rattle.std.proofs.lemmas.Nat.Gcd.{mod-eq-zero_of_dvd}
-use Rattle.coeff_rings.specs.Fractions.{whole, lowest_terms, scaled}
-use Rattle.coeff_rings.specs.Proved.Fractions.{Stands, Stands-lowest_terms}
-use Rattle.coeff_rings.specs.Proved.Cleared.{scaled-Stands}
+use Rattle.fraction_laws.specs.Fractions.{whole, lowest_terms, scaled}
+use Rattle.fraction_laws.proofs.Fractions.{Stands, Stands-lowest_terms}
+use Rattle.fraction_laws.proofs.Cleared.{scaled-Stands}
 use Rattle.sym_model.specs.Sum.{Among}
 use Rattle.sym_model.specs.Partition.{size}
 use Rattle.sym_model.specs.Polynomial.{Term, Poly, Same, same, coefficient}

@@ -34,6 +34,7 @@ use Rattle.linear_combinations.proofs.Weighed.{weighed_append}
 use native.Mathlib.Nat.{mul-pos, mul-le-mul_left, mul-le-mul_right}
 use Rattle.std.proofs.Math.Nat.{one-mul}
 use Rattle.sym_model.proofs.Ring.{one-product}
+use Rattle.family_list_laws.proofs.IndependentPowerSums.{rows-raise}
 
 doubled-positive : (s : ℕ) → 0 < doubled s
 doubled-positive zero = omega arith
@@ -69,9 +70,6 @@ cost-each converted a rest (b ∷ numbers) B h = search (rules, one-mul, (cost-e
 rows-without : (b : ℕ) (l : List ℕ) → Among b l → length (without_one b l) + 1 ≡ length l
 rows-without b [] m = absurd m
 rows-without b (d ∷ l) m = search (rules, cases_eq, without_one_here, without_one_past, (rows-without b l))
-
-rows-raise : (a b : ℕ) (rest : List ℕ) → Among b rest → length (raise a b rest) ≤ length rest
-rows-raise a b rest m = let h = rows-insert_part (a + b) (without_one b rest) in let k = rows-without b rest m in omega arith
 
 raise-size : (a b : ℕ) (rest : List ℕ) → IsPartition rest → Among b rest → size (raise a b rest) ≡ a + size rest
 raise-size a b rest p m = size-raise a b rest p (has-zero_or b rest (inr (has-among b rest m)))

@@ -17,7 +17,8 @@ use Rattle.basis_change.proofs.HookSteps.{beta-last, length-others, value-again,
 use Rattle.linear_combinations.specs.Gains.{WholeTermsOf, over, mass, scaled, HaveLabels, Overflows}
 use Rattle.linear_combinations.proofs.Gains.{overflows_alone}
 use Rattle.basis_change.specs.RimHooks.{hook}
-use Rattle.beta_sets.specs.BetaSets.{numbers, shape, IsBetaSet, IsShape, same_set}
+use Rattle.beta_sets.specs.BetaSets.{numbers, shape, IsBetaSet, IsShape}
+use Rattle.linear_combinations.proofs.Labels.{same_number}
 use Rattle.beta_sets.proofs.BinaryPlaces.{places-even, places-odd, places-more, places-put}
 use Rattle.beta_sets.proofs.BetaSets.{digit-absent, or_digit}
 use Rattle.beta_sets.proofs.ShapeSums.{one_label}
@@ -69,7 +70,7 @@ module _ (a set others : ℕ) (c : ℤ) (twice : others ≡ 2 * set) (none : has
       let passed = length (numbers (2 * set)) - greater a (numbers (2 * set)) in
       let p = nat_abs-product c (minus_one_to passed) in
       let s = ap (λ n. nat_abs c * n) (sign_size passed) in
-      subst (Overflows nat_eq old) (sym (ap (scaled c) (hook-one a set here))) (overflows_alone nat_eq_equiv same_set old (2 * set + 2 ^ a) (c *ℤ minus_one_to passed) (omega arith))
+      subst (Overflows nat_eq old) (sym (ap (scaled c) (hook-one a set here))) (overflows_alone nat_eq_equiv same_number old (2 * set + 2 ^ a) (c *ℤ minus_one_to passed) (omega arith))
 
 pub hook-mass : (a set : ℕ) → mass (hook a set) ≤ 1
 hook-mass a set = search (rules, sign_size)

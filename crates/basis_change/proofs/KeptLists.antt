@@ -27,7 +27,8 @@ use Rattle.sym_model.proofs.WholeTerms.{labels_append}
 use Rattle.linear_combinations.proofs.Masses.{mass_append, mass_replaced, labels_replaced, labels_gained, overflow_mass}
 use Rattle.basis_change.specs.KeptLists.{IsKept, IsKeptRest}
 use Rattle.std.specs.Cmp.{nat_eq_equiv}
-use Rattle.beta_sets.specs.BetaSets.{shape, shapes, IsShape, AreShapes, IsShapeTable, same_set}
+use Rattle.beta_sets.specs.BetaSets.{shape, shapes, IsShape, AreShapes, IsShapeTable}
+use Rattle.linear_combinations.proofs.Labels.{same_number}
 use Rattle.basis_change.specs.RimHooks.{hooks_below, hooked_lists}
 use Rattle.beta_sets.proofs.BetaSets.{shape-empty, empty_shape}
 use Rattle.beta_sets.proofs.ShapeSums.{over-shapes, one_label}
@@ -41,8 +42,8 @@ kept-empty old new set c o s n is gained = record {
   straightens = λ n g.
       no_part n g
       ∙ sym (over-shapes (within_rows n g) new ∙ alone.sums (λ s. within_rows n g (shape s)) ∙ +ℤ_idl (pos 1 *ℤ within_rows n g (shape 0) +ℤ pos 0) ∙ ap (λ (ν : List ℕ). pos 1 *ℤ within_rows n g ν +ℤ pos 0) shape-empty);
-  few = gains_mass same_set nat_eq_equiv [] ((0, pos 1) ∷ []) new is alone;
-  within = labels_gained nat_eq_equiv same_set [] ((0, pos 1) ∷ []) new is alone (IsShape 0) (λ t m. absurd m) (one_label (IsShape 0) 0 (pos 1) empty_shape);
+  few = gains_mass same_number nat_eq_equiv [] ((0, pos 1) ∷ []) new is alone;
+  within = labels_gained nat_eq_equiv same_number [] ((0, pos 1) ∷ []) new is alone (IsShape 0) (λ t m. absurd m) (one_label (IsShape 0) 0 (pos 1) empty_shape);
 }
   where
     alone : Gains [] ((0, pos 1) ∷ []) new
@@ -123,12 +124,12 @@ module _ (parts : List ℕ) (p : IsPartition parts) (low : size parts ≤ 20) wh
         })
         (λ g. over-shapes g sum ∙ gains.sums (λ s. g (shape s)) ∙ +ℤ_idl (over (λ s. g (shape s)) (hooked_lists lists)) ∙ all-over g lists rests);
     few =
-        let m = gains_mass same_set nat_eq_equiv [] (hooked_lists lists) sum is gains in
+        let m = gains_mass same_number nat_eq_equiv [] (hooked_lists lists) sum is gains in
         let a = all-mass lists rests in
         let r = rows_within_size parts p.positive in
         let f = within-factorial parts (parts_of lists) (omega arith) e in
         omega arith;
-    within = labels_gained nat_eq_equiv same_set [] (hooked_lists lists) sum is gains (IsShape (size parts)) (λ t m. absurd m) (all-labels lists rests);
+    within = labels_gained nat_eq_equiv same_number [] (hooked_lists lists) sum is gains (IsShape (size parts)) (λ t m. absurd m) (all-labels lists rests);
   }
 
   pub not_large : (lists : List (ℕ × WholeTermsOf ℕ)) (later : List ℕ) → 0 < length parts → parts_of lists ++ later ≡ distinct parts → ((x : ℕ × WholeTermsOf ℕ) → Among x lists → IsKeptRest parts x)

@@ -9,7 +9,7 @@ use Rattle.sym_model.specs.WholeTerms.{WholeTerms}
 use Rattle.sym_model.proofs.SortedParts.{rows_within_size, IsPartition-none}
 use Rattle.sparse_polys.specs.Tables.{IsWholeTable}
 use Rattle.sparse_polys.specs.LabelSizes.{AreWithin}
-use Rattle.sparse_polys.specs.Labels.{same_pair}
+use Rattle.linear_combinations.proofs.Labels.{same_pair}
 use Rattle.sparse_polys.proofs.WholeLists.{label-partition}
 use Rattle.linear_combinations.specs.Gains.{Gains, HaveLabels, weighed}
 use Rattle.linear_combinations.proofs.Masses.{labels_gained}

@@ -9,9 +9,9 @@ use Rattle.std.proofs.Common.{◌≡◌, ℕ, suc, ◌^◌, ◌≤◌, List, [],
 use Rattle.std.specs.Cmp.Lexicographic.{nat_list_eq_equiv}
 use Rattle.sym_model.specs.Partition.{size}
 use Rattle.sym_model.specs.WholeTerms.{WholeTerms}
-use Rattle.sparse_polys.specs.Labels.{same_pair}
+use Rattle.linear_combinations.proofs.Labels.{same_pair}
 use Rattle.linear_combinations.specs.Gains.{WholeTermsOf, HaveLabels, Gains, Overflows, mass, over, replaced}
-use Rattle.linear_combinations.specs.Labels.{same_partition}
+use Rattle.linear_combinations.proofs.Labels.{same_partition}
 use Rattle.linear_combinations.proofs.Counted.{replaced_at}
 use Rattle.linear_combinations.proofs.Masses.{labels_gained, labels_replaced, overflow_mass}
 use Rattle.sparse_polys.specs.LabelSizes.{AreWithin}

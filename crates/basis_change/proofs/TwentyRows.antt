@@ -25,11 +25,12 @@ use Rattle.sym_model.proofs.SortedParts.{rows_within_size}
 use Rattle.sym_model.proofs.Sums.{total_among, total_scale, Among_from_map}
 use Rattle.beta_list_laws.proofs.BetaLists.{from_beta-beta, length-beta}
 use Rattle.linear_combinations.specs.Gains.{over, only, mass_at, replaced, Gains, Overflows, HaveLabels}
-use Rattle.linear_combinations.specs.Labels.{same_partition}
+use Rattle.linear_combinations.proofs.Labels.{same_partition}
 use Rattle.linear_combinations.proofs.Gains.{over_at, over_only_within, replaced_over}
 use Rattle.linear_combinations.proofs.Masses.{label_held, labels_replaced}
 use Rattle.sparse_polys.specs.Tables.{equal}
-use Rattle.beta_sets.specs.BetaSets.{numbers, shape, shapes, in_rows, set_of, IsBetaSet, IsInRows, IsShape, AreShapes, IsShapeTable, same_set}
+use Rattle.beta_sets.specs.BetaSets.{numbers, shape, shapes, in_rows, set_of, IsBetaSet, IsInRows, IsShape, AreShapes, IsShapeTable}
+use Rattle.linear_combinations.proofs.Labels.{same_number}
 use Rattle.beta_sets.proofs.BetaSets.{below_power, within_more}
 use Rattle.beta_sets.proofs.SetNumbers.{set_of-numbers, same_shape}
 use Rattle.beta_sets.proofs.ShapeSums.{over-shapes, one_label}
@@ -127,7 +128,7 @@ module _ {P : ℕ → Type 0} (apart : (a b : ℕ) → P a → P b → shape a �
 
       at : (x : ℕ) → P x → mass_at equal (shape x) (shapes terms) ≡ nat_abs (over (only equal (shape x)) (shapes terms))
       at x p =
-          mass_shape x p terms h ∙ mass_at-table nat_eq_equiv same_set x terms is.distinct
+          mass_shape x p terms h ∙ mass_at-table nat_eq_equiv same_number x terms is.distinct
           ∙ ap nat_abs (sym (over_shape x p terms h))
 
       by : (0 < mass_at equal ν (shapes terms)) ⊎ (mass_at equal ν (shapes terms) ≤ 0) → mass_at equal ν (shapes terms) ≡ nat_abs (over (only equal ν) (shapes terms))
@@ -156,7 +157,7 @@ mass_wide c x (t ∷ list) are = by (nat_eq x (in_rows 20 t.0)) refl (equal (sha
         let z : nat_abs c * (nat_abs t.1 + mass_at equal (shape x) (shapes list)) ≡ nat_abs t.1 * nat_abs c + nat_abs c * mass_at equal (shape x) (shapes list) = omega arith in
         omega arith
     by true e false f r =
-        absurd (let i = equal_from (shape x) (shape t.0) (ap shape (same_set x (in_rows 20 t.0) e) ∙ wide-shape t.0 (are t (inl refl))) in cc)
+        absurd (let i = equal_from (shape x) (shape t.0) (ap shape (same_number x (in_rows 20 t.0) e) ∙ wide-shape t.0 (are t (inl refl))) in cc)
 
 module _ (c : ℤ) (parts : List ℕ) (n : ℕ) (list : WholeTermsOf ℕ) (kept : IsKept parts list) (low : size parts ≤ 20) (enough : size parts ≤ n) where
   are : AreShapes 20 list
@@ -199,5 +200,5 @@ module _ (c : ℤ) (parts : List ℕ) (n : ℕ) (list : WholeTermsOf ℕ) (kept 
       (shape x, omega arith)
     where
       by : (0 < mass_at nat_eq x old) ⊎ (mass_at nat_eq x old ≤ 0) → nat_abs (over (only nat_eq x) old) ≤ mass_at nat_eq x old → IsInRows 20 20 x
-      by (inl k) w = label_held nat_eq same_set (IsInRows 20 20) old x h k
-      by (inr k) w = label_held nat_eq same_set (IsInRows 20 20) (replaced (wide c) list) x wide-labels (omega arith)
+      by (inl k) w = label_held nat_eq same_number (IsInRows 20 20) old x h k
+      by (inr k) w = label_held nat_eq same_number (IsInRows 20 20) (replaced (wide c) list) x wide-labels (omega arith)

@@ -15,7 +15,7 @@ use Rattle.sparse_polys.specs.LabelSizes.{AreWithin}
 use Rattle.sym_model.specs.WholeTerms.{WholeTerms}
 use Rattle.linear_combinations.specs.Gains.{mass}
 use Rattle.sym_model.specs.Polynomial.{coefficient}
-use Rattle.coeff_rings.specs.Fractions.{lowest_terms}
+use Rattle.fraction_laws.specs.Fractions.{lowest_terms}
 use Rattle.sparse_polys.specs.Tables.{found, IsWholeTable}
 use Rattle.basis_change.specs.Clearing.{IsBoundedBy, IsMultipleIn, clearing_factor}
 

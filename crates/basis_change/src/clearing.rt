@@ -9,7 +9,7 @@ ghost use Rattle.monomial_laws.specs.ExpressionTerms.{over};
 ghost use Rattle.basis_change_laws.specs.AugmentedMonomial.{multiplicity_factorials};
 ghost use Rattle.sparse_polys.specs.LabelSizes.{AreWithin};
 ghost use Rattle.sparse_polys.specs.Tables.{IsFractionTable, IsWholeTable};
-ghost use Rattle.coeff_rings.specs.Fractions.{scaled};
+ghost use Rattle.fraction_laws.specs.Fractions.{scaled};
 ghost use Rattle.basis_change.specs.Clearing.{augmented_number, augmented_terms, HasFactors};
 ghost use Rattle.basis_change.specs.AugmentedProducts.{equal, IsMixedTable};
 ghost use Rattle.linear_combinations.specs.Gains.{Gains, Overflows};

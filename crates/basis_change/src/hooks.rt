@@ -1,21 +1,12 @@
 //! Adds special rim hooks to shapes: rim hooks that begin in the first column, below the shape.
-ghost use Rattle.std.specs.Prelude.{◌≡◌, ◌<◌, ◌≤◌, ◌^◌, ◌*ℤ◌, nat_abs, nat_eq, OnOk, IsErrOf};
-ghost use Rattle.std.specs.Prelude.{MatchOption};
-ghost use Rattle.sym_model.specs.PlaceOrders.{minus_one_to};
+ghost use Rattle.std.specs.Prelude.{◌<◌, ◌≤◌, ◌^◌, nat_eq, OnOk, IsErrOf};
 ghost use Rattle.linear_combinations.specs.Gains.{Gains, Overflows, scaled};
 ghost use Rattle.basis_change.specs.RimHooks.{hook};
 
-use beta_sets::{BetaSet, Shapes};
+use beta_sets::{BetaSet, Shapes, turned};
 use calc_base::SumFault;
-use coeff_rings::{Int, Ring};
+use coeff_rings::Int;
 use linear_combinations::Rule;
-
-/// (-1)^`times`·c; `None` only if the absolute value of c is 2^127 or more.
-fn turned(c: Int, times: u32) -> Option<Int>
-    ensures { MatchOption result (2 ^ 127 ≤ nat_abs c) (λ z. z ≡ minus_one_to times *ℤ c) }
-{
-    if times % 2 == 0 { Some(c) } else { c.neg() }
-}
 
 /// Adds to `sum` c times the result, with its sign, of adding a rim hook of `a` cells to the shape
 /// of the beta set; the rim hook begins in the first column, in the row after the rows of the set.

@@ -11,14 +11,13 @@ ghost use Rattle.basis_change.specs.KeptLists.{IsKept, AreKept};
 
 use crate::hooks::HooksBelow;
 use crate::parts::without_part;
-use crate::sorting::has;
 use crate::twenty_rows::InTwentyRows;
 use beta_sets::{BetaSet, Shapes};
 use calc_base::SumFault;
 use coeff_rings::{Int, Scalar};
 use family_lists::{Lists, keep, list_at, place_of};
 use linear_combinations::Lin;
-use partitions::Partition;
+use partitions::{Partition, has_part};
 use std::alloc::Global;
 
 /// The list to which the arrangements of the empty partition straighten: the empty partition with
@@ -53,7 +52,7 @@ fn kept_list(alloc: Global, lists: &mut Lists<Shapes>, parts: &[u16]) -> Result<
     let mut sum = Lin::new(alloc);
     for at in 0..parts.len() {
         let part = parts[at];
-        if has(&parts[at + 1..], part) {
+        if has_part(&parts[at + 1..], part) {
             continue;
         }
         let rest = without_part(alloc, parts, part)?;

@@ -29,7 +29,6 @@ mod last_part;
 mod parts;
 mod products;
 mod rewriting;
-mod sorting;
 mod straightening;
 mod twenty_rows;
 

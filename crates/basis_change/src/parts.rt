@@ -7,15 +7,6 @@ ghost use Rattle.basis_change_laws.specs.AugmentedMonomial.{multiplicity_factori
 
 use std::alloc::{AllocError, Global};
 
-/// A copy of the parts.
-pub(crate) fn copy_of(alloc: Global, parts: &[u16]) -> Result<Vec<u16>, AllocError>
-    ensures { IfOk result (λ copy. copy.items ≡ parts.now) }
-{
-    let mut copy = Vec::new(alloc);
-    copy.extend_from_slice(parts)?;
-    Ok(copy)
-}
-
 /// The index of the first of `parts` that is not greater than `part`; the number of parts if all
 /// are greater.
 fn place_of(parts: &[u16], part: u16) -> usize
@@ -75,7 +66,7 @@ pub(crate) fn take_part(parts: &mut Vec<u16>, part: u16)
 pub(crate) fn without_part(alloc: Global, parts: &[u16], part: u16) -> Result<Vec<u16>, AllocError>
     ensures { IfOk result (λ rest. rest.items ≡ without_one part parts.now) }
 {
-    let mut rest = copy_of(alloc, parts)?;
+    let mut rest = Vec::from_slice(alloc, parts)?;
     take_part(&mut rest, part);
     Ok(rest)
 }

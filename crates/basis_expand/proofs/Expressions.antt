@@ -3,8 +3,8 @@ use Rattle.std.proofs.Common.{◌≡◌, ℕ, ◌*◌, ◌/◌, List, [], ◌∷
 use Rattle.std.specs.Prelude.{nat_eq, negsuc}
 use Rattle.std.specs.Int.{◌∣◌}
 use Rattle.std.specs.Cmp.Lexicographic.{pointwise}
-use Rattle.coeff_rings.specs.Fractions.{whole}
-use Rattle.coeff_rings.specs.Proved.Fractions.{InLowestTerms-whole}
+use Rattle.fraction_laws.specs.Fractions.{whole}
+use Rattle.fraction_laws.proofs.Fractions.{InLowestTerms-whole}
 use Rattle.sym_model.specs.Polynomial.{pair, scale, negate, times}
 use Rattle.sym_model.specs.Expansion.{Basis, schurs, Terms, denominators, basis_polynomial, IsExpansionOf}
 use Rattle.sym_model.specs.Expression.{Tree, atom, negation, sum, product, lcm, denominator, cleared_value}
@@ -23,7 +23,7 @@ use Rattle.std.proofs.Math.Nat.{dvd-mul_left, dvd-mul_right}
 use native.Mathlib.Nat.{mul-pos}
 use Rattle.sparse_polys.specs.Tables.{IsFractionTable}
 use Rattle.basis_expand.specs.SchurLists.{StandsFor, sum_at}
-use Rattle.basis_expand.specs.SchurLaws.{expansion_respects}
+use Rattle.monomial_laws.proofs.ExpressionLaws.{expansion_respects}
 use Rattle.basis_expand.proofs.SchurExpansions.{expansion-tells, expansion-from}
 use Rattle.basis_expand.proofs.SchurTables.{common-sum, sum_at-sum, common-multiple, sum_at-multiple}
 use Rattle.linear_combinations.specs.Cleared.{IsCommonDenominator}

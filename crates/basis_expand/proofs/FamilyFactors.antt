@@ -14,7 +14,7 @@ use Rattle.sym_model.specs.Expression.{Tree, cleared_value, denominator}
 use Rattle.monomial_laws.proofs.Majorants.{In-cleared_value}
 use Rattle.basis_expand.proofs.AtomLists.{no_parts}
 use Rattle.basis_expand.specs.SchurLists.{StandsFor}
-use Rattle.basis_expand.specs.SchurLaws.{expansion_respects}
+use Rattle.monomial_laws.proofs.ExpressionLaws.{expansion_respects}
 
 -- the product of e_k, h_k or p_k over the parts k of a partition is the polynomial of this partition in the basis e, h or p
 pub product_basis : (family : Family) (parts : List ℕ) (n : ℕ) → product_over (polynomial_of family) parts n ≡ basis_polynomial (basis_in family) parts n

@@ -4,9 +4,9 @@ use Rattle.std.proofs.lemmas.List.{nil_from_length}
 use Rattle.std.specs.Prelude.{nat_eq}
 use Rattle.std.specs.Int.{◌∣◌}
 use Rattle.std.specs.Cmp.Lexicographic.{pointwise}
-use Rattle.coeff_rings.specs.Fractions.{InLowestTerms, scaled, whole, fraction_product}
-use Rattle.coeff_rings.specs.Proved.Fractions.{InLowestTerms-whole}
-use Rattle.coeff_rings.specs.Proved.Cleared.{product-cleared}
+use Rattle.fraction_laws.specs.Fractions.{InLowestTerms, scaled, whole, fraction_product}
+use Rattle.fraction_laws.proofs.Fractions.{InLowestTerms-whole}
+use Rattle.fraction_laws.proofs.Cleared.{product-cleared}
 use Rattle.sym_model.specs.Polynomial.{Poly, pair, one, scale, join, times}
 use Rattle.sym_model.specs.Schur.{schur}
 use Rattle.sym_model.specs.Expansion.{schurs, Fraction, Terms, denominators, cleared, value, IsExpansionOf}

@@ -5,8 +5,8 @@ use Rattle.std.specs.Int.{◌∣◌}
 use Rattle.std.proofs.lemmas.Int.{ints}
 use Rattle.std.specs.Cmp.Lexicographic.{pointwise}
 use Rattle.std.proofs.Math.Nat.{div-mul_cancel}
-use Rattle.coeff_rings.specs.Fractions.{InLowestTerms, whole, scaled, lowest_terms}
-use Rattle.coeff_rings.specs.Proved.Fractions.{InLowestTerms-whole, Stands-same, Stands-whole, Stands-lowest_terms}
+use Rattle.fraction_laws.specs.Fractions.{InLowestTerms, whole, scaled, lowest_terms}
+use Rattle.fraction_laws.proofs.Fractions.{InLowestTerms-whole, Stands-same, Stands-whole, Stands-lowest_terms}
 use Rattle.sym_model.specs.Partition.{size}
 use Rattle.sym_model.specs.Polynomial.{pair, one, scale}
 use Rattle.sym_model.specs.Schur.{schur}
@@ -24,7 +24,7 @@ use Rattle.sparse_polys.specs.LabelSizes.{AreWithin}
 use Rattle.sparse_polys.proofs.Quotients.{Quotients, Quotients-none, Quotients-next}
 use Rattle.sparse_polys.proofs.DividedLists.{expansion-quotients, bounded-quotients, within-quotients}
 use Rattle.basis_expand.specs.SchurLists.{IsOneTerm, StandsFor}
-use Rattle.basis_expand.specs.SchurLaws.{expansion_respects}
+use Rattle.monomial_laws.proofs.ExpressionLaws.{expansion_respects}
 use Rattle.basis_expand.proofs.SchurExpansions.{expansion-from, expansion_rescaled}
 use Rattle.basis_expand.proofs.SchurTables.{common_of}
 use Rattle.linear_combinations.proofs.Cleared.{AreCleared-nothing}

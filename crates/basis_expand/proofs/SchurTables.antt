@@ -11,8 +11,8 @@ use Rattle.std.specs.Int.{◌∣◌}
 use Rattle.std.specs.Map.{lookup}
 use Rattle.std.specs.Option.{unwrap_or}
 use Rattle.std.specs.Cmp.Lexicographic.{pointwise}
-use Rattle.coeff_rings.specs.Fractions.{InLowestTerms, scaled}
-use Rattle.coeff_rings.specs.Proved.Cleared.{sum-cleared, product-cleared}
+use Rattle.fraction_laws.specs.Fractions.{InLowestTerms, scaled}
+use Rattle.fraction_laws.proofs.Cleared.{sum-cleared, product-cleared}
 use Rattle.sym_model.specs.Sum.{Among}
 use Rattle.sym_model.specs.Polynomial.{coefficient, pair, plus, scale}
 use Rattle.sym_model.specs.Schur.{schur}

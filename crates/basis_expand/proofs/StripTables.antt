@@ -18,7 +18,7 @@ use Rattle.schur_laws.specs.Kostka.{strips_off, kostka}
 use Rattle.schur_laws.proofs.KostkaNumbers.{strips_off-tell}
 use Rattle.schur_laws.proofs.SchurLists.{kostka-not_negative, kostka-within, kostka-ones}
 use Rattle.linear_combinations.specs.Gains.{mass_at, scaled, each_with, HaveLabels, Overflows}
-use Rattle.linear_combinations.specs.Labels.{same_partition}
+use Rattle.linear_combinations.proofs.Labels.{same_partition}
 use Rattle.linear_combinations.proofs.Gains.{each_over, replaced_over}
 use Rattle.linear_combinations.proofs.Masses.{scaled_each, labels_each, labels_replaced}
 use Rattle.sparse_polys.specs.Tables.{equal, IsWholeTable}

@@ -1,10 +1,7 @@
 pub mod Postorder
 pub mod Values
-pub mod TargetLaws
 pub mod Clearing
 pub mod Strips
 pub mod Contents
-pub mod MonomialLaws
 pub mod SchurLists
 pub mod Operands
-pub mod SchurLaws

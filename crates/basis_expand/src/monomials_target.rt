@@ -2,9 +2,13 @@
 //! numbers, atoms (basis elements such as s[2,1]), negations, sums and products. Each value is a
 //! list of terms c·m_λ with integer coefficients, and a denominator.
 ghost use Rattle.std.specs.Prelude.{ℕ, ◌^◌, ◌≤◌, IsErrOf};
-ghost use Rattle.sym_model.specs.Expression.{lcm, sum};
+ghost use Rattle.sym_model.specs.Expansion.{monomials};
+ghost use Rattle.sym_model.specs.Expression.{cleared_value, difference, lcm, negation, sum};
+ghost use Rattle.sym_model.proofs.Polynomials.{Same_trans};
+ghost use Rattle.monomial_laws.specs.ExpressionTerms.{in_monomials};
+ghost use Rattle.monomial_laws.proofs.ExpressionLaws.{difference-value, heavy-more};
+ghost use Rattle.monomial_laws.proofs.WeightBounds.{growth-mono};
 ghost use Rattle.basis_expand.specs.Clearing.{ClearsTo, IsHeavyInMonomials};
-ghost use Rattle.basis_expand.specs.MonomialLaws.{clears-difference, heavy-whole};
 ghost use Rattle.basis_expand.specs.Values.{IsMadeOf};
 
 use crate::cleared::Cleared;
@@ -70,7 +74,12 @@ impl Target for Monomials {
         Ok(Cleared { terms, den })
     }
 
-    ghost differs = { λ _. clears-difference };
+    ghost differs = { λ _ e f c h. record {
+      den_is = h.den_is;
+      value = λ n. Same_trans (in_monomials c.terms n) (cleared_value (sum e (negation f)) n)
+          (cleared_value (difference e f) n) (h.value n) (difference-value e f n);
+    } };
 
-    ghost grows = { λ _. heavy-whole };
+    ghost grows = { λ _ e f h k.
+        heavy-more monomials growth-mono e f h.num h.den h.deg k };
 }

@@ -7,7 +7,7 @@ ghost use Rattle.sym_model.specs.Partition.{rows, size};
 ghost use Rattle.sym_model.specs.LabelLimits.{is_label};
 ghost use Rattle.sym_model.specs.Polynomial.{Poly, times};
 ghost use Rattle.sym_model.specs.WholeTerms.{WholeTerms};
-ghost use Rattle.coeff_rings.specs.Fractions.{scaled, InLowestTerms};
+ghost use Rattle.fraction_laws.specs.Fractions.{scaled, InLowestTerms};
 ghost use Rattle.linear_combinations.specs.Cleared.{IsDenominator, IsCommonDenominator};
 ghost use Rattle.linear_combinations.specs.Cleared.{AreCleared, GainsCleared, GainsMultiple};
 ghost use Rattle.basis_expand.specs.SchurLists.{ComeTo, product_at, row_at};

@@ -3,13 +3,15 @@
 //! list of terms in Schur polynomials.
 ghost use Rattle.std.specs.Prelude.{ℕ, ◌≤◌, nat_eq, IsTrue, IfOk};
 ghost use Rattle.std.specs.Cmp.Lexicographic.{pointwise};
-ghost use Rattle.sym_model.specs.Expression.{Tree, degree, product};
-ghost use Rattle.expression_reading.specs.Trees.{tree_of, has_no_signs};
+ghost use Rattle.sym_model.specs.Expression.{Tree, cleared_value, degree, denominator};
+ghost use Rattle.sym_model.specs.Expression.{difference, negation, product, sum};
+ghost use Rattle.monomial_laws.proofs.ExpressionLaws.{difference-value, expansion_respects};
+ghost use Rattle.monomial_laws.proofs.ExpressionLaws.{sum-not_atom};
+ghost use Rattle.expression_reading.specs.Trees.{basis_of, has_no_signs, tree_of};
 ghost use Rattle.sparse_polys.specs.Combination.{IsSumOf};
 ghost use Rattle.sparse_polys.specs.Tables.{IsFractionTable};
 ghost use Rattle.basis_expand.specs.SchurLists.{StandsFor};
 ghost use Rattle.basis_expand.specs.Operands.{IsOperand, MayBeRefused};
-ghost use Rattle.basis_expand.specs.SchurLaws.{operand-difference};
 
 use crate::evaluation::evaluate;
 use crate::operand::Operand;
@@ -30,6 +32,8 @@ use std::alloc::Global;
 pub(crate) struct Schurs;
 
 impl Target for Schurs {
+    ghost use Rattle.basis_expand.specs.declared.operand.Operand.TheVariants.{Atom, Expanded};
+
     type Value = Operand;
 
     ghost limit = { 20 };
@@ -74,7 +78,14 @@ impl Target for Schurs {
         Ok(Operand::Expanded { list })
     }
 
-    ghost differs = { λ _. operand-difference };
+    ghost differs = { λ _ e f v. elim v as (λ v. IsOperand (sum e (negation f)) v
+        → IsOperand (difference e f) v) [
+          | Atom basis label ↦ λ h. absurd (sum-not_atom e (negation f) (basis_of basis) label h)
+          | Expanded list ↦ λ h n.
+              expansion_respects list n (cleared_value (sum e (negation f)) n)
+              (cleared_value (difference e f) n) (denominator (difference e f))
+              (difference-value e f n) (h n)
+        ] };
 
     ghost grows = { λ _ e f _ _. tt };
 }

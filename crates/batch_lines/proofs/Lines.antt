@@ -52,7 +52,7 @@ line_last text h l =
     lines_are text ∙ ap whole_lines (split_one text h) ∙ ap (λ t. cond t (text ∷ []) []) (lt-ltb 0 (length text) l)
 
 pub told : (all rest taken : List ℕ) → Took (Some all) (Some rest) taken → all ≡ taken ++ rest
-told all rest taken h = h
+told all rest taken h = cc
 
 pub long_is : (text : List ℕ) → most_bytes < length text → batch_line text ≡ too_long
 long_is text h = ap (λ t. cond t too_long (line_of_words (words_of_line (without_return text)))) (lt-ltb most_bytes (length text) h)

@@ -1,25 +1,37 @@
 -- The next line of a source whose bytes are taken piece by piece.
-use Rattle.std.proofs.Common.{◌≡◌, ℕ, ◌+◌, ◌≤◌, Bool, true, false, List, [], ◌∷◌, ◌++◌, append_assoc, length, length-append, refl, sym, ap, ◌∙◌, subst, arith, Option, Some, None, inl, inr}
-use Rattle.std.specs.Prelude.{IfSome}
-use Rattle.std.specs.Io.KnownBytes.{IsAtEnd, Keeps}
+use Rattle.std.proofs.Common.{◌≡◌, ℕ, ◌+◌, ◌≤◌, Bool, true, false, List, [], ◌∷◌, ◌++◌, append_assoc, length, length-append, refl, sym, ap, ◌∙◌, subst, arith, Option, Some, None, inl, inr, ◌⊎◌}
+use Rattle.std.specs.Prelude.{IfSome, is_some}
+use Rattle.std.specs.Io.KnownBytes.{IsAtEnd, prepend_known, Keeps}
 use Rattle.std.proofs.KnownBytes.{Consumes-trans, Consumes-kept}
-use Rattle.std.proofs.lemmas.Bool.{ltb-true, ltb-false}
+use Rattle.std.proofs.lemmas.Bool.{ltb-true, ltb-false, cases_eq}
 use Rattle.std.proofs.lemmas.List.{append-nil, nil_from_length}
 use Rattle.sym_model.specs.BatchLine.{most_bytes}
 use Rattle.calc_base.specs.Source.{SourceSeen}
 use Rattle.batch_lines.specs.Feeds.{HasNoFeed}
 use Rattle.batch_lines.specs.Heard.{IsHeard, IsTaken, Hears}
-use Rattle.batch_lines.specs.Reading.{Took, TookPart, EndsAtFeed, EndsAtEnd, EndsBy, IsNext, ReadsNext, next_at_feed, next_at_end}
+use Rattle.batch_lines.specs.Reading.{most_pending, HasLineAtMost, TookLineAtMost, Took, TookPart, EndsAtFeed, EndsAtEnd, EndsBy, IsNext, ReadsNext, next_at_feed, next_at_end}
 use Rattle.batch_lines.specs.declared.heard.Heard.{Heard}
 use Rattle.batch_lines.specs.declared.next.Next.{Next}
 use Rattle.batch_lines.proofs.Parts.{no_feed_append}
 
 pub took_nothing : (told : Option (List ℕ)) → Took told told []
-took_nothing None = tt
+took_nothing None = refl
 took_nothing (Some rest) = refl
 
 pub took_more : (before between now : Option (List ℕ)) (first more : List ℕ) → Took before between first → Took between now more → Took before now (first ++ more)
-took_more before between now first more h k = Consumes-trans before between now first more h k
+took_more before between now first more h k = h ∙ ap (prepend_known first) k ∙ joined now
+  where
+    joined : (told : Option (List ℕ)) → prepend_known first (prepend_known more told) ≡ prepend_known (first ++ more) told
+    joined None = refl
+    joined (Some rest) = ap Some (sym (append_assoc first more rest))
+
+-- if bytes were taken from a source, it records its bytes afterwards if and only if it did before
+pub took_told : (before now : Option (List ℕ)) (taken : List ℕ) → Took before now taken → is_some now ≡ is_some before
+took_told before now taken h = same now ∙ ap is_some (sym h)
+  where
+    same : (told : Option (List ℕ)) → is_some told ≡ is_some (prepend_known taken told)
+    same None = refl
+    same (Some rest) = refl
 
 pub record ReadsSo (before now : SourceSeen) (first pending kept : List ℕ) (is_long : Bool) : Type 0 where
   pub taken : List ℕ
@@ -78,15 +90,46 @@ goes_on {before = before} {now = now} {later = later} {first = first} {pending =
 
 pub cuts : {before now : SourceSeen} (later : Option (List ℕ)) {first pending kept behind line : List ℕ} {is_long : Bool} (heard : Heard)
     → (r : ReadsSo before now first pending kept is_long) → Hears r.text pending behind line heard → heard.has_ended ≡ false
-    → Keeps now.left later → TookPart before.left later first
+    → later ≡ now.left → TookPart before.left later first
 cuts {before = before} {now = now} later {first = first} {pending = pending} {behind = behind} heard r h e kept_left =
     let cut : (pending ≡ h.part) × (behind ≡ []) = subst (IsTaken h.part pending behind) e h.taken in
     record {
       taken = r.taken;
-      took = Consumes-kept before.left now.left later r.taken r.took kept_left;
+      took = r.took ∙ ap (prepend_known r.taken) (sym kept_left);
       no_feed =
           subst HasNoFeed (sym (r.bytes ∙ ap (λ xs. r.text ++ xs) cut.0)) (no_feed_append r.text h.part r.no_feed h.no_feed);
     }
+
+-- the bytes `text`, without a line feed, and at most 4,096 bytes after them have at most one complete line with few bytes after it
+line_at_most : (text behind : List ℕ) → HasNoFeed text → length behind ≤ most_pending → HasLineAtMost (text ++ behind)
+line_at_most text [] none few = inl (subst HasNoFeed (sym (append-nil text)) none)
+line_at_most text (b ∷ behind) none few = by (cases_eq b 10) (line_at_most (text ++ b ∷ []) behind)
+  where
+    by : (b ≡ 10) ⊎ (b ≡ 10 → ⊥) → (HasNoFeed (text ++ b ∷ []) → length behind ≤ most_pending → HasLineAtMost ((text ++ b ∷ []) ++ behind))
+        → HasLineAtMost (text ++ b ∷ behind)
+    by (inl e) later = inr (record { line = text; rest = behind; whole = ap (λ c. text ++ c ∷ behind) e; no_feed = none; short = omega arith })
+    by (inr d) later =
+        subst HasLineAtMost (append_assoc text (b ∷ []) behind) (later (no_feed_append text (b ∷ []) none (d, tt)) (omega arith))
+
+-- if memory runs out while a line is read, at most this line was taken from the source, and few bytes after it
+pub runs_out : {before now : SourceSeen} {first pending kept : List ℕ} {is_long : Bool} → ReadsSo before now first pending kept is_long
+    → length pending ≤ most_pending → TookLineAtMost before.left now.left first
+runs_out {pending = pending} r short = record {
+  taken = r.taken;
+  took = r.took;
+  at_most = subst HasLineAtMost (sym r.bytes) (line_at_most r.text pending r.no_feed short);
+}
+
+-- a line was read, and at most 4,096 bytes are pending after it: at most one complete line was taken
+pub reads_at_most : {before now : SourceSeen} {pending behind line : List ℕ} {has_ended : Bool} {next : Next}
+    → ReadsNext before now pending behind line has_ended next → length behind ≤ most_pending
+    → TookLineAtMost before.left now.left pending
+reads_at_most {now = now} {pending = pending} {behind = behind} {has_ended = has_ended} r short =
+    record { taken = r.taken; took = r.took; at_most = by has_ended r.ends }
+  where
+    by : (ended : Bool) → EndsBy ended (pending ++ r.taken) r.text behind now.left → HasLineAtMost (pending ++ r.taken)
+    by false e = inr (record { line = r.text; rest = behind; whole = e; no_feed = r.no_feed; short = short })
+    by true e = inl (subst HasNoFeed (sym e.whole) r.no_feed)
 
 told_end : (later : Option (List ℕ)) → IsAtEnd later → IfSome later (λ rest. rest ≡ [])
 told_end None h = tt

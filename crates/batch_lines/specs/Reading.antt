@@ -1,7 +1,7 @@
 -- The state of a reader of lines, and the reading of the next line.
 use Rattle.std.specs.Prelude.{◌≡◌, ◌⊎◌, ◌<◌, ◌≤◌, ℕ, ◌+◌, Bool, true, false, List, [], ◌∷◌, ◌++◌}
 use Rattle.std.specs.Prelude.{length, Option, IfSome, Result, Ok, Err}
-use Rattle.std.specs.Io.KnownBytes.{Consumes}
+use Rattle.std.specs.Io.KnownBytes.{prepend_known}
 use Rattle.sym_model.specs.BatchLine.{most_bytes}
 use Rattle.calc_base.specs.Fault.{Rose}
 use Rattle.calc_base.specs.Source.{SourceSeen}
@@ -22,9 +22,9 @@ pub record Reading : Type 0 where
   pub line : List ℕ
   pub has_ended : Bool
 
--- the bytes `taken` were taken from the source, if it records its bytes
+-- the bytes `taken` were taken from the source, if it records its bytes; whether it does is unchanged
 abbrev pub Took : Option (List ℕ) → Option (List ℕ) → List ℕ → Type 0
-Took before now taken = Consumes before now taken
+Took before now taken = before ≡ prepend_known taken now
 
 -- the bytes `all` are the text of a line, a line feed, and the bytes `pending` after it
 abbrev pub EndsAtFeed : List ℕ → List ℕ → List ℕ → Type 0
@@ -92,11 +92,29 @@ pub record TookPart (before now : Option (List ℕ)) (pending : List ℕ) : Type
   pub took : Took before now taken
   pub no_feed : HasNoFeed (pending ++ taken)
 
+-- the bytes are a line with its line feed, and at most 4,096 bytes after it
+pub record HasOneLine (bytes : List ℕ) : Type 0 where
+  pub line : List ℕ
+  pub rest : List ℕ
+  pub whole : bytes ≡ line ++ 10 ∷ rest
+  pub no_feed : HasNoFeed line
+  pub short : length rest ≤ most_pending
+
+-- the bytes have no complete line; or they are one complete line, and at most 4,096 bytes after it
+abbrev pub HasLineAtMost : List ℕ → Type 0
+HasLineAtMost bytes = HasNoFeed bytes ⊎ HasOneLine bytes
+
+-- bytes were taken from the source; these and the pending ones have at most one complete line, with at most 4,096 bytes after it
+pub record TookLineAtMost (before now : Option (List ℕ)) (pending : List ℕ) : Type 0 where
+  pub taken : List ℕ
+  pub took : Took before now taken
+  pub at_most : HasLineAtMost (pending ++ taken)
+
 -- if the result is `SourceFault`, the source had not ended before, and neither the pending bytes nor those that were
--- taken from the source have a line feed
+-- taken from the source have a line feed; if it is `NoMemory`, they have at most one complete line
 abbrev pub CutsLine : (before now : Option (List ℕ)) → List ℕ → (had_ended : Bool)
     → Result Next LineFault → Type 0
 CutsLine before now pending had_ended (Ok next) = Unit {0}
 CutsLine before now pending had_ended (Err SourceFault) =
     (had_ended ≡ false) × TookPart before now pending
-CutsLine before now pending had_ended (Err NoMemory) = Unit {0}
+CutsLine before now pending had_ended (Err NoMemory) = TookLineAtMost before now pending

@@ -41,6 +41,7 @@ pub(crate) fn hear(
 ) -> Result<Heard, NoMemory>
     ensures heard { (text : List ℕ) → IsHeard text line.old.items is_long
         → IfOk result (λ heard. Hears text pieces.old pieces.new line.new.items heard) }
+    ensures few { length pieces.old ≤ most_pending }
     ensures short { IfOk result (λ _. length pieces.new ≤ most_pending) }
 {
     let Some(at) = first_feed(pieces.front()) else {

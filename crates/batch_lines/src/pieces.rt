@@ -1,9 +1,9 @@
 //! A buffer of bytes that were taken from a source and not yet read.
 ghost use Rattle.std.specs.Prelude.{◌≡◌, ◌≤◌, ◌==◌, [], length, drop, OnErr, IfOk};
-ghost use Rattle.std.specs.Io.KnownBytes.{Consumes, IsAtEnd, Keeps};
+ghost use Rattle.std.specs.Io.KnownBytes.{IsAtEnd};
 ghost use Rattle.calc_base.specs.Fault.{CountsFaults};
 ghost use Rattle.calc_base.specs.Source.{Spends};
-ghost use Rattle.batch_lines.specs.Reading.{most_pending};
+ghost use Rattle.batch_lines.specs.Reading.{Took, most_pending};
 
 use calc_base::{Source, SourceFault};
 use std::marker::Model;
@@ -62,10 +62,10 @@ impl Pieces {
     pub(crate) fn refill<S: Source>(&mut self, source: &mut S) -> Result<usize, SourceFault>
         ensures count { IfOk result (λ count. count ≡ length self.new) }
         ensures taken { IfOk result (λ _.
-            Consumes (S.seen source.old).left (S.seen source.new).left self.new) }
+            Took (S.seen source.old).left (S.seen source.new).left self.new) }
         ensures ended { IfOk result (λ count. count ≡ 0 → IsAtEnd (S.seen source.new).left) }
         ensures spends { Spends (S.seen source.old).allowance (S.seen source.new).allowance result }
-        ensures kept { OnErr result (Keeps (S.seen source.old).left (S.seen source.new).left) }
+        ensures kept { OnErr result ((S.seen source.new).left ≡ (S.seen source.old).left) }
         ensures counts { CountsFaults (S.seen source.old).faults (S.seen source.new).faults result }
     {
         self.start = 0;

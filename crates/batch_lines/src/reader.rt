@@ -71,8 +71,9 @@ impl LineReader {
     ///
     /// A line of more than 4,096 bytes is skipped as `TooLong`, and its further bytes are not
     /// stored. The call returns `SourceFault` if and only if a call of the source failed; in this
-    /// case the bytes that were taken and not yet read have no line feed. After an error bytes may
-    /// be lost, and the reader must not be used. After the source has ended it is not called, and
+    /// case the bytes that were taken and not yet read have no line feed. If memory runs out, they
+    /// have at most one complete line. After an error bytes may be lost, and the reader must not be
+    /// used. After the source has ended it is not called, and
     /// the result is `End`. The clause `reads` assumes that a source that had ended before has
     /// nothing left.
     pub fn next<S: Source>(&mut self, source: &mut S) -> Result<Next, LineFault>

@@ -1,5 +1,5 @@
 -- The places of the binary digits 1 of a number, from the greatest one on.
---     places-greatest, split_at   the greatest place, and the other places
+--     numbers-greatest, split_at  the greatest place, and the other places
 --     places_strict               the places are strictly decreasing
 use Rattle.std.proofs.Common.{◌≡◌, ◌⊎◌, ℕ, zero, suc, ◌+◌, ◌-◌, ◌*◌, ◌/◌, ◌%◌, ◌^◌, ◌<◌, ◌≤◌, Bool, true, false, List, [], ◌∷◌, ◌++◌, map, refl, sym, ap, ap₂, ◌∙◌, subst, inl, inr, arith}
 use Rattle.std.specs.Prelude.{nat_eq}

@@ -8,7 +8,7 @@ use Rattle.std.specs.Option.{unwrap_or}
 use Rattle.std.specs.List.{IsDistinct}
 use Rattle.std.specs.Map.{keys_of}
 use Rattle.std.specs.Cmp.{nat_eq_equiv}
-use Rattle.coeff_rings.specs.Fractions.{whole, lowest_terms}
+use Rattle.fraction_laws.specs.Fractions.{whole, lowest_terms}
 use Rattle.sym_model.specs.Sum.{Among, Once}
 use Rattle.sym_model.specs.Expansion.{Terms}
 use Rattle.sym_model.specs.Polynomial.{same, coefficient}
@@ -21,15 +21,16 @@ use Rattle.linear_combinations.specs.Gains.{HaveLabels}
 use Rattle.linear_combinations.proofs.Totals.{carried, found-among, once}
 use Rattle.linear_combinations.proofs.Masses.{over_same}
 use Rattle.sparse_polys.proofs.Quotients.{Quotients}
-use Rattle.beta_sets.specs.BetaSets.{shape, shapes, same_set, IsInRows}
+use Rattle.beta_sets.specs.BetaSets.{shape, shapes, IsInRows}
+use Rattle.linear_combinations.proofs.Labels.{same_number}
 use Rattle.beta_sets.proofs.ShapeSums.{over-shapes}
 use Rattle.beta_sets.proofs.SetNumbers.{same_shape}
 use Rattle.sparse_polys.proofs.PartitionTerms.{once_before}
 
 same_term : (terms : WholeTermsOf ℕ) → IsDistinct nat_eq (keys_of terms) → (t u : ℕ × ℤ) → Among t terms → Among u terms → t.0 ≡ u.0 → t ≡ u
 same_term terms d t u m n e =
-    let f = found-among nat_eq_equiv same_set terms d t m in
-    let g = found-among nat_eq_equiv same_set terms d u n in
+    let f = found-among nat_eq_equiv same_number terms d t m in
+    let g = found-among nat_eq_equiv same_number terms d u n in
     let v : Some t.1 ≡ Some u.1 = cc in
     ap₂ (λ (a : ℕ) (b : ℤ). (a, b)) e (ap (λ (o : Option ℤ). unwrap_or o (pos 0)) v)
 
@@ -42,14 +43,14 @@ coefficient-before terms is within done rest k v e =
     let there = subst (Among r.0) e (Among-append_left r.0 done ((k, v) ∷ rest) r.1) in
     let here = subst (Among (k, v)) e (Among-append_right (k, v) done ((k, v) ∷ rest) (inl refl)) in
     let label = same_shape 20 20 r.0.0 k (within r.0 there) (within (k, v) here) (sym (ap (λ (u : List ℕ × ℤ). u.0) r.2) ∙ i) in
-    once_before done rest (k, v) (subst (λ (l : WholeTermsOf ℕ). Once l) (sym e) (once nat_eq_equiv same_set terms is.distinct)) (subst (λ (x : ℕ × ℤ). Among x done) (same_term terms is.distinct r.0 (k, v) there here label) r.1))))
+    once_before done rest (k, v) (subst (λ (l : WholeTermsOf ℕ). Once l) (sym e) (once nat_eq_equiv same_number terms is.distinct)) (subst (λ (x : ℕ × ℤ). Among x done) (same_term terms is.distinct r.0 (k, v) there here label) r.1))))
 
 same_sums : (first second : WholeTermsOf ℕ) → IsCombination nat_eq (λ s. true) whole first → IsCombination nat_eq (λ s. true) whole second → HasSameCoefficients nat_eq (pos 0) first second
     → (label : List ℕ) → coefficient (shapes second) label ≡ coefficient (shapes first) label
 same_sums first second is also equal label =
     coefficient_pair (shapes second) label
     ∙ over-shapes (at_only label) second
-    ∙ sym (over_same nat_eq_equiv same_set first second is also equal (λ s. at_only label (shape s)))
+    ∙ sym (over_same nat_eq_equiv same_number first second is also equal (λ s. at_only label (shape s)))
     ∙ sym (over-shapes (at_only label) first)
     ∙ sym (coefficient_pair (shapes first) label)
 
@@ -60,4 +61,4 @@ same_quotients d first second answer is also equal q label = q label ∙ ap (λ 
 pub same_labels : (P : ℕ → Type 0) (first second : WholeTermsOf ℕ) → IsCombination nat_eq (λ s. true) whole first → IsCombination nat_eq (λ s. true) whole second
     → HasSameCoefficients nat_eq (pos 0) first second → HaveLabels P first → HaveLabels P second
 same_labels P first second is also equal held t m =
-    held t (carried nat_eq_equiv same_set (pos 0) whole refl second first also t m (sym (equal t.0)))
+    held t (carried nat_eq_equiv same_number (pos 0) whole refl second first also t m (sym (equal t.0)))

@@ -2,18 +2,13 @@
 -- and 0 otherwise.
 use Rattle.std.specs.Prelude.{◌≡◌, ℕ, zero, suc, ◌+◌, ◌-◌, ◌*◌, ◌/◌, ◌%◌, ◌^◌, ◌<◌, ◌≤◌, true, nat_eq}
 use Rattle.std.specs.Prelude.{nat_le, nat_lt, not, cond, ℤ, List, [], ◌∷◌, ◌++◌, map, filter, length}
-use Rattle.std.specs.Prelude.{IsTrue}
-use Rattle.std.specs.Cmp.{unsigned_tied, unsigned_Decides, nat_cmp_total, IsTotalOrder}
-use Rattle.std.specs.Ordering.{nat_cmp, is_eq}
+use Rattle.std.specs.Ordering.{nat_cmp}
 use Rattle.std.specs.declared.cmp.Ordering.{Ordering}
-use Rattle.std.specs.declared.cmp.Ordering.TheVariants.{Equal}
-use Rattle.std.proofs.Common.{sym, ap, ◌∙◌}
-use Rattle.std.proofs.lemmas.Cmp.{back_total}
 use Rattle.sym_model.specs.Bases.{has}
 use Rattle.sym_model.specs.BetaList.{beta, from_beta}
 use Rattle.sym_model.specs.Partition.{IsPartition, rows, size}
 use Rattle.sym_model.specs.WholeTerms.{WholeTerms, WholeTermsOf}
-use Rattle.coeff_rings.specs.Fractions.{whole}
+use Rattle.fraction_laws.specs.Fractions.{whole}
 use Rattle.linear_combinations.specs.Entries.{IsCombination}
 use Rattle.linear_combinations.specs.Gains.{HaveLabels}
 
@@ -87,16 +82,7 @@ IsShapeTable terms = IsCombination nat_eq (λ s. true) whole terms
 abbrev pub shapes : WholeTermsOf ℕ → WholeTerms
 shapes terms = map (λ (t : ℕ × ℤ). (shape t.0, t.1)) terms
 
-pub same_set : (a b : ℕ) → nat_eq a b ≡ true → a ≡ b
-same_set a b h = (unsigned_Decides a b).0 h
-
 -- the order of beta sets in which the greater one, as a number, comes first; for the partitions of one size, with a fixed number of rows, this is the
 -- printed order
 abbrev pub falling : ℕ → ℕ → Ordering
 falling a b = nat_cmp b a
-
-pub falling_total : IsTotalOrder falling
-falling_total = back_total nat_cmp_total
-
-pub sets_tie : (a b : ℕ) → IsTrue true → IsTrue true → falling a b ≡ Equal → a ≡ b
-sets_tie a b s t e = sym (same_set b a (sym (unsigned_tied b a) ∙ ap is_eq e))

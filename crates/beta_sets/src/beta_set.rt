@@ -5,7 +5,7 @@ ghost use Rattle.std.specs.Prelude.{IfOk, IsErrOf, MatchOption};
 ghost use Rattle.sym_model.specs.Bases.{has};
 ghost use Rattle.sym_model.specs.BetaList.{greater};
 ghost use Rattle.sym_model.specs.Polynomial.{coefficient};
-ghost use Rattle.coeff_rings.specs.Fractions.{lowest_terms};
+ghost use Rattle.fraction_laws.specs.Fractions.{lowest_terms};
 ghost use Rattle.linear_combinations.specs.Gains.{Gains, Overflows, HaveLabels};
 ghost use Rattle.partitions.specs.Limits.{IsWithinLimits};
 ghost use Rattle.sparse_polys.specs.Tables.{equal, found, IsFractionTable, IsWholeTable};
@@ -240,7 +240,9 @@ impl Model for BetaSet {
 
 impl Label for BetaSet {
     ghost use Rattle.std.specs.Prelude.{true};
-    ghost use Rattle.beta_sets.specs.BetaSets.{falling, falling_total, same_set, sets_tie};
+    ghost use Rattle.beta_sets.specs.BetaSets.{falling};
+    ghost use Rattle.linear_combinations.proofs.Labels.{same_number, falling_numbers_total};
+    ghost use Rattle.linear_combinations.proofs.Labels.{falling_numbers_equal};
 
     ghost is_label = { λ s. true };
 
@@ -256,11 +258,11 @@ impl Label for BetaSet {
         Ok(*self)
     }
 
-    ghost same_label = { same_set };
+    ghost same_label = { same_number };
 
-    ghost order_total = { falling_total };
+    ghost order_total = { falling_numbers_total };
 
-    ghost order_equal = { sets_tie };
+    ghost order_equal = { falling_numbers_equal };
 }
 
 /// A table of partitions, stored as beta sets, with integer coefficients.

@@ -12,7 +12,7 @@ use Rattle.sym_model.specs.Kind as kinds
 use Rattle.sym_model.specs.Canonical.{is_coefficient, is_reduced, is_ordered, each_term, fits_128_bits, is_canonical_by, is_printable}
 use Rattle.sym_model.specs.NumberText.{cut_at, signed_value, fraction_text}
 use Rattle.sym_model.specs.PrintedBlock.{terms_of, read_by, block_by}
-use Rattle.coeff_rings.specs.Proved.Whole.{fits_from_test, zero_fits_128_bits}
+use Rattle.fraction_laws.proofs.Whole.{fits_from_test, zero_fits_128_bits}
 use Rattle.expansion_printer.specs.Answers.{number_terms}
 use Rattle.printing_laws.proofs.Decimals.{signed_decimal-lacks, signed_value-signed_decimal}
 use Rattle.printing_laws.proofs.Blocks.{read_by-tells, are_short-from_tests}

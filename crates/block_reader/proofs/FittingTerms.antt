@@ -9,7 +9,7 @@ use Rattle.sym_model.specs.Kind.{LabelRules}
 use Rattle.sym_model.specs.Canonical.{is_coefficient, is_reduced, each_term, fits_128_bits}
 use Rattle.sym_model.specs.NumberText.{cut_at, fraction_of, fraction_of_pieces, signed_value}
 use Rattle.sym_model.specs.PrintedBlock.{term_of_line, term_of_parts}
-use Rattle.coeff_rings.specs.Proved.Whole.{fits_from_test}
+use Rattle.fraction_laws.proofs.Whole.{fits_from_test}
 use Rattle.block_reader.specs.Parts.{denominator_after}
 use Rattle.block_reader.specs.Fitting.{fits, all_fit, term_with}
 use Rattle.block_reader.proofs.Cuts.{pieces_after, split-cut}

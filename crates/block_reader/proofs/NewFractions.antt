@@ -6,10 +6,10 @@ use Rattle.std.proofs.lemmas.Int.{ints}
 use Rattle.std.proofs.lemmas.Bool.Decides.{Decides-int_eq}
 use Rattle.sym_model.specs.Canonical.{is_coefficient, fits_128_bits}
 use Rattle.sym_model.proofs.Ring.{product-one}
-use Rattle.coeff_rings.specs.Fractions.{whole, InLowestTerms, lowest_terms, fraction_quotient}
-use Rattle.coeff_rings.specs.Checked.{fits_fraction, checked_fraction, checked_fraction_of}
-use Rattle.coeff_rings.specs.Proved.Fractions.{Stands-same, Stands-itself, Stands-lowest_terms}
-use Rattle.coeff_rings.specs.Proved.Whole.{where_fits-true}
+use Rattle.fraction_laws.specs.Fractions.{whole, InLowestTerms, lowest_terms, fraction_quotient}
+use Rattle.fraction_laws.specs.Checked.{fits_fraction, checked_fraction, checked_fraction_of}
+use Rattle.fraction_laws.proofs.Fractions.{Stands-same, Stands-itself, Stands-lowest_terms}
+use Rattle.fraction_laws.proofs.Whole.{where_fits-true}
 use Rattle.sparse_polys.proofs.Coefficients.{lowest-is_reduced}
 use Rattle.block_reader.specs.Fitting.{fits}
 

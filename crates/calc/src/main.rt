@@ -7,21 +7,23 @@
 //! of the program is the code of a status that `AnswersWords` allows for the words after the
 //! program's name. `code_for`: the exit code is 7 or 8 if the system refuses the words. `run_over`:
 //! all clauses of the contract of `calc_app::run`, over any reader and any writer with a buffer in
-//! front of it; `headline` and `lines` hold also for the bytes that the writer has received.
+//! front of it, if their bytes are known always or never; `headline` and `lines` hold also for the
+//! bytes that the writer has received.
 #![tactic(auto)]
 
 ghost use Rattle.std.specs.Prelude.{◌≡◌, ◌≢◌, ℕ, List, Some, drop, map, string_bytes};
 ghost use Rattle.std.specs.Process.{exit_status};
 ghost use Rattle.calc_app.specs.Top.{AnswersWords, CutsLines, HidesNoFault, IsEmptied, IsOutcome};
-ghost use Rattle.calc_app.specs.Top.{IsThrough, Leaves, PrintsAnswerTo, PrintsLines, RunsLines};
+ghost use Rattle.calc_app.specs.Top.{IsThrough, KeepsTold, Leaves, PrintsAnswerTo, PrintsLines};
+ghost use Rattle.calc_app.specs.Top.{RunsLines};
 ghost use Rattle.calc_base.specs.Edge.{intake_seen, outlet_seen, told_bytes};
 ghost use Rattle.calc_base.specs.Sink.{Appends};
 ghost use Rattle.calc_base.specs.Status.{IsCodeOf, code_of};
 
 use calc_app::run;
-use calc_base::{Status, StdIn, StdOut};
+use calc_base::{Status, StdIn, StdOut, SteadyRead, SteadyWrite};
 use std::alloc::Global;
-use std::io::{BufWriter, ErrorKind, Read, Write};
+use std::io::{BufWriter, ErrorKind};
 use std::process::ExitCode;
 use std::rt::Env;
 use std::{env, io};
@@ -92,7 +94,7 @@ fn status_of(rt: &HostRuntime, words: &[String]) -> Status
 
 /// Runs the command that the words spell, over a reader, and over a writer with a buffer in front
 /// of it.
-fn run_over<R: Read, W: Write + Drop>(
+fn run_over<R: SteadyRead, W: SteadyWrite + Drop>(
     alloc: Global,
     words: &[String],
     source: &mut StdIn<R>,
@@ -123,6 +125,8 @@ fn run_over<R: Read, W: Write + Drop>(
     ensures faults { HidesNoFault (outlet_seen W.contents sink.old)
         (outlet_seen W.contents sink.new)
         (intake_seen R.remaining source.old) (intake_seen R.remaining source.new) result }
+    ensures told { KeepsTold (outlet_seen W.contents sink.old) (outlet_seen W.contents sink.new)
+        (intake_seen R.remaining source.old) (intake_seen R.remaining source.new) }
     ensures all_read { RunsLines (map string_bytes words.now) → IsThrough result
         → IsEmptied (R.remaining source.new.reader) }
     ensures untouched { (RunsLines (map string_bytes words.now) → ⊥) → source.new ≡ source.old }

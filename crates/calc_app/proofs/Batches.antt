@@ -4,11 +4,11 @@ use Rattle.std.proofs.Common.{◌≡◌, ◌⊎◌, ℕ, ◌+◌, ◌≤◌, ◌
 use Rattle.std.specs.Prelude.{Ok}
 use Rattle.std.proofs.lemmas.List.{map-append}
 use Rattle.batch_lines.proofs.Lines.{long_is, more_blocks, more_text, more_done}
-use Rattle.batch_lines.proofs.NextLines.{took_nothing}
+use Rattle.batch_lines.proofs.NextLines.{took_nothing, took_told}
 use Rattle.batch_lines.specs.declared.next.Next.{Next}
 use Rattle.batch_lines.specs.declared.next.Next.TheVariants as next
 use Rattle.batch_lines.specs.Feeds.{HasNoFeed}
-use Rattle.batch_lines.specs.Reading.{Took, EndsAtFeed, EndsAtEnd, EndsBy, IsNext, TookPart, most_pending}
+use Rattle.batch_lines.specs.Reading.{Took, EndsAtFeed, EndsAtEnd, EndsBy, IsNext, TookPart, TookLineAtMost, HasLineAtMost, most_pending}
 use Rattle.calc_base.proofs.PutsLaws.{Appends-then, Appends-nothing, AppendsPrefix-then}
 use Rattle.calc_base.specs.declared.status.Status.{Status}
 use Rattle.calc_base.specs.declared.status.Status.TheVariants as status
@@ -375,32 +375,7 @@ ends_cut {first = first} {sink = sink} {next_sink = next_sink} {source = source}
           subst (λ xs. length xs ≤ most_pending) (sym (append-nil behind)) short,
         );
       };
-    }
-
--- if memory runs out while a further line is read, the batch ends with `NoMemory`
-pub ends_full : {first sink : SinkSeen} {source before now : SourceSeen} (Untouched : Type 0) {pending : List ℕ} {had : Bool} {progress : Progress}
-    → Runs first sink source before pending had progress → now.faults ≡ before.faults
-    → (taken : List ℕ) × Took before.left now.left taken → EndsBatch first sink source now Untouched status.NoMemory
-ends_full {source = source} {before = before} {now = now} Untouched {pending = pending} {had = had} r same t =
-    let front = read_cut source.left before.left now.left t.0 pending r.spelled r.lines had r.read r.is_spelled r.is_whole t.1 in
-    record {
-      leaves = inr (
-        tt,
-        record {
-          front = front.front;
-          piece = pending ++ t.0;
-          took = front.took;
-          is_ended = front.is_ended;
-          is_front = front.is_front;
-          text = batch_text r.blocks;
-          ending = batch_ending r.blocks;
-          outcome = runs_input front.front r.lines r.blocks r.are_blocks front.are;
-          appended = r.appended;
-        },
-      );
-      faults = no_faults is_full r.still (same ∙ r.source_still);
-      all_read = no_end is_full_not_through;
-      cut = λ e. absurd (is_full.0 e);
+      told = took_told source.left now.left _ front.took;
     }
 
 no_front : (front rest : List ℕ) → front ++ rest ≡ [] → front ≡ []
@@ -415,9 +390,9 @@ put_nothing first sink next_sink text appended cut =
 
 finish_cut : {first sink next_sink : SinkSeen} {source now : SourceSeen} (Untouched : Type 0) {lines : List (List ℕ)} {piece : List ℕ} (blocks : List Block)
     → AreBlocks batch_entries (map batch_line lines) blocks → Appends first sink (batch_text blocks) → sink.faults ≡ first.faults
-    → Puts true sink false next_sink [] → Cut source.left now.left lines piece → HasNoFeed piece → source.faults ≤ now.faults
+    → Puts true sink false next_sink [] → Cut source.left now.left lines piece → HasLineAtMost piece → source.faults ≤ now.faults
     → EndsBatch first next_sink source now Untouched status.SinkFault
-finish_cut {first = first} {sink = sink} {next_sink = next_sink} Untouched {lines = lines} {piece = piece} blocks are appended still puts front no_feed later = record {
+finish_cut {first = first} {sink = sink} {next_sink = next_sink} {source = source} {now = now} Untouched {lines = lines} {piece = piece} blocks are appended still puts front at_most later = record {
   leaves = record {
     front = front.front;
     is_front = front.is_front;
@@ -436,9 +411,10 @@ finish_cut {first = first} {sink = sink} {next_sink = next_sink} Untouched {line
     puts = inr (
       subst (λ ls. PutsBlocks first next_sink (map batch_line ls)) (sym front.are)
           (record { blocks = blocks; are_blocks = are; appended = put_nothing first sink next_sink (batch_text blocks) appended (puts.cut refl refl) }),
-      no_feed,
+      at_most,
     );
   };
+  told = took_told source.left now.left _ front.took;
 }
 
 finished_text : (first sink next_sink : SinkSeen) (text : List ℕ) → Appends first sink text → Puts true sink true next_sink [] → Appends first next_sink text
@@ -470,7 +446,7 @@ pub ends_held : {first sink next_sink : SinkSeen} {source now : SourceSeen} (Unt
 ends_held {source = source} {now = now} Untouched {pending = pending} {had = had} r none puts =
     finish_cut Untouched r.blocks r.are_blocks r.appended r.still puts
     (read_cut source.left now.left now.left [] pending r.spelled r.lines had r.read r.is_spelled r.is_whole (took_nothing now.left))
-    (subst HasNoFeed (sym (append-nil pending)) none) (let s = r.source_still in omega (arith, s))
+    (inl (subst HasNoFeed (sym (append-nil pending)) none)) (let s = r.source_still in omega (arith, s))
 
 end_same : (progress : Progress) (blocks : List Block) → progress.is_done ≡ are_done blocks → end_status progress ≡ status_of (batch_ending blocks)
 end_same progress blocks same = ap (λ x. cond x status.Done status.SomeRefused) same ∙ by (are_done blocks)
@@ -493,6 +469,7 @@ ends_last {first = first} {sink = sink} {next_sink = next_sink} {source = source
     by true puts settles same_status =
         let whole = read_whole source.left before.left now.left t.taken pending behind r.spelled r.lines had r.read r.is_spelled t.took t.ends in
         let ending = batch_ending r.blocks in
+        let cut = read_cut source.left before.left now.left t.taken pending r.spelled r.lines had r.read r.is_spelled r.is_whole t.took in
         subst (EndsBatch first next_sink source now Untouched) (sym (same_status ∙ is ∙ end_same progress r.blocks r.is_done))
         (record {
           leaves = leaves_ending first next_sink source now Untouched (Unit {0}) (RunsInput batch_entries) whole.input (batch_text r.blocks) ending
@@ -501,12 +478,13 @@ ends_last {first = first} {sink = sink} {next_sink = next_sink} {source = source
           faults = no_faults (ends_well ending) (puts.still refl ∙ r.still) (same ∙ r.source_still);
           all_read = λ e. t.ends.none_left;
           cut = λ e. absurd ((ends_well ending).0 e);
+          told = took_told source.left now.left _ cut.took;
         })
     by false puts settles same_status =
         subst (EndsBatch first next_sink source now Untouched) (sym same_status)
         (finish_cut Untouched r.blocks r.are_blocks r.appended r.still puts
         (read_cut source.left before.left now.left t.taken pending r.spelled r.lines had r.read r.is_spelled r.is_whole t.took)
-        (subst HasNoFeed (sym t.ends.whole) tt) (let s = same ∙ r.source_still in omega (arith, s)))
+        (inl (subst HasNoFeed (sym t.ends.whole) tt)) (let s = same ∙ r.source_still in omega (arith, s)))
 
 -- if the source failed, the batch ends with `SourceFault`, or with `SinkFault` if `finish` failed
 pub ends_source : {first sink next_sink : SinkSeen} {source before now : SourceSeen} (Untouched : Type 0) {pending : List ℕ} {progress : Progress}
@@ -541,9 +519,51 @@ ends_source {first = first} {sink = sink} {next_sink = next_sink} {source = sour
           faults = source_failed (puts.still refl ∙ r.still) (rose ∙ ap counted_up r.source_still) (let s = r.source_still in omega (arith, s, later));
           all_read = no_end is_source_fault;
           cut = λ e. let clash : status.SourceFault ≡ status.SinkFault = e in cc;
+          told = took_told source.left now.left _ part.took;
         })
     by false puts settles same_status =
         subst (EndsBatch first next_sink source now Untouched) (sym same_status)
         (finish_cut Untouched r.blocks r.are_blocks r.appended r.still puts
         (read_cut source.left before.left now.left t.taken pending r.spelled r.lines false r.read r.is_spelled r.is_whole t.took)
-        t.no_feed (let s = r.source_still in omega (arith, s, later)))
+        (inl t.no_feed) (let s = r.source_still in omega (arith, s, later)))
+
+-- if memory runs out for a further line, the batch ends with `NoMemory`, or with `SinkFault` if `finish` failed
+pub ends_full : {first sink next_sink : SinkSeen} {source before now : SourceSeen} (Untouched : Type 0) {pending : List ℕ} {had : Bool}
+    {progress : Progress} {result : Status} → Runs first sink source before pending had progress
+    → TookLineAtMost before.left now.left pending → now.faults ≡ before.faults
+    → Finishes sink next_sink status.NoMemory result → EndsBatch first next_sink source now Untouched result
+ends_full {first = first} {sink = sink} {next_sink = next_sink} {source = source} {before = before} {now = now} Untouched {pending = pending} {had = had} {result = result} r t same f =
+    by f.well f.puts f.settles f.is
+  where
+    front : Cut source.left now.left r.lines (pending ++ t.taken)
+    front = read_cut source.left before.left now.left t.taken pending r.spelled r.lines had r.read r.is_spelled r.is_whole t.took
+
+    by : (well : Bool) → Puts true sink well next_sink [] → (well ≡ true → next_sink.settled ≡ true)
+        → result ≡ cond well status.NoMemory status.SinkFault → EndsBatch first next_sink source now Untouched result
+    by true puts settles same_status =
+        subst (EndsBatch first next_sink source now Untouched) (sym same_status)
+        (record {
+          leaves = inr (
+            tt,
+            record {
+              front = front.front;
+              piece = pending ++ t.taken;
+              took = front.took;
+              at_most = t.at_most;
+              is_ended = front.is_ended;
+              is_front = front.is_front;
+              text = batch_text r.blocks;
+              ending = batch_ending r.blocks;
+              outcome = runs_input front.front r.lines r.blocks r.are_blocks front.are;
+              appended = finished_text first sink next_sink (batch_text r.blocks) r.appended puts;
+              is_settled = settles refl;
+            },
+          );
+          faults = no_faults is_full (puts.still refl ∙ r.still) (same ∙ r.source_still);
+          all_read = no_end is_full_not_through;
+          cut = λ e. absurd (is_full.0 e);
+          told = took_told source.left now.left _ front.took;
+        })
+    by false puts settles same_status =
+        subst (EndsBatch first next_sink source now Untouched) (sym same_status)
+        (finish_cut Untouched r.blocks r.are_blocks r.appended r.still puts front t.at_most (let s = same ∙ r.source_still in omega (arith, s)))

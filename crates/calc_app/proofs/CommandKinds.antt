@@ -1,14 +1,16 @@
 -- The three kinds of commands: those that ask for an expansion (a number or a list of terms), those that print other lines
 -- (tableaux, words, grids), and those that run other commands. An outcome of a command is a text with an *ending*, which is
 -- `done` or says which kind of refusal occurred.
-use Rattle.std.proofs.Common.{ℕ, List, Option, inl, inr, ◌⊎◌, refl}
+use Rattle.std.proofs.Common.{ℕ, List, Option, inl, inr, ◌⊎◌, refl, arith}
 use Rattle.std.specs.Prelude.{ℤ}
 use Rattle.sym_model.specs.Answer.{Answer as PlainAnswer}
 use Rattle.sym_model.specs.BatchOutcome.{AnswersWith}
-use Rattle.sym_model.specs.Command.{Command, quantum, fusion, tab, rsk, unrsk, rect, growth, batch, work}
+use Rattle.sym_model.specs.Command.{Command, quantum, fusion, expand, plethysm, tab, rsk, unrsk, rect, growth, batch, work}
 use Rattle.sym_model.specs.Ending.{Ending, done}
 use Rattle.sym_model.specs.Form.{EachOf}
 use Rattle.sym_model.specs.Headline.{ReadsBack}
+use Rattle.one_answer_laws.specs.OneAnswer.{IsDefinite}
+use Rattle.one_answer_laws.proofs.OneAnswer.{one_text}
 use Rattle.sym_model.specs.Target.{IsDefinedCoefficient, HasWeight, Meets}
 use Rattle.sym_model.specs.Outcome.{Answers, Expands, MayBeLarge}
 use Rattle.rim_hooks.proofs.TextsInSteps.{quantum_reads-steps, fusion_reads-steps}
@@ -16,7 +18,7 @@ use Rattle.calc_words.specs.WrittenLimits.{IsWritten, KeepsLimits}
 use Rattle.word_laws.proofs.LongestPrefixes.{each_in}
 use Rattle.calc_language.specs.BuiltCommands.{batch_entries}
 use Rattle.calc_replies.specs.Computed.{Tells}
-use Rattle.calc_app.specs.Top.{IsInput, Says, SaysOver}
+use Rattle.calc_app.specs.Top.{IsInput, Says, SaysOver, IsOnlyText}
 use Rattle.sym_model.specs.Partition.{ArePartitions}
 
 -- the command asks for an expansion: its outcomes (`Answers`), each a text and an ending, are the outcomes of an expansion (`Expands`)
@@ -56,6 +58,16 @@ not_large command h k (inr heavy) = k heavy.0 heavy.1
 are_partitions : (factors : List (List ℕ)) → EachOf IsWritten factors → ArePartitions factors
 are_partitions factors written parts among = (each_in IsWritten parts factors written among).partition
 
+definite : (command : Command) → KeepsLimits command → IsDefinite command
+definite (quantum rows columns factors) l = let p = l.0.positive in omega arith
+definite (expand target one_line e) l = l.1
+definite (plethysm target outer inner) l = l.4
+definite command l = tt
+
+-- a text that reads back as the answer to a command within its limits is the only one
+only : (command : Command) (text : List ℕ) → KeepsLimits command → ReadsBack command text → IsOnlyText command text
+only command text l h other o = one_text command other text (definite command l) o h
+
 -- every command asks for an expansion (`NamesExpansion`), prints tableaux, words or grids (`TellsLines`), or runs other commands (`RunsOthers`)
 pub kind : (command : Command) → NamesExpansion command ⊎ TellsLines command ⊎ RunsOthers command
 kind (tab outer inner last) = inr (inl (record { answers = λ t h. (h, refl); over = λ i t e h. h; alone = λ i t e h. h; unnamed = λ a h. h; small = not_large (tab outer inner last) (λ c h. h) (λ w h. h); says = λ t h. h; says_over = λ l t h. h }))
@@ -71,7 +83,11 @@ kind (quantum rows columns factors) = inl (record {
   over = λ i t e h. h;
   alone = λ i t e h. h;
   untold = λ t h. h;
-  says = λ t l h. (h, quantum_reads-steps rows columns factors t l.0.positive l.2.some (are_partitions factors l.2.written) h);
+  says = λ t l h. (
+    h,
+    quantum_reads-steps rows columns factors t l.0.positive l.2.some (are_partitions factors l.2.written) h,
+    only (quantum rows columns factors) t l h,
+  );
   says_over = λ l t h. h;
 })
 kind (fusion rows level factors) = inl (record {
@@ -80,7 +96,11 @@ kind (fusion rows level factors) = inl (record {
   over = λ i t e h. h;
   alone = λ i t e h. h;
   untold = λ t h. h;
-  says = λ t l h. (h, fusion_reads-steps rows level factors t l.0.positive l.2.some (are_partitions factors l.2.written) h);
+  says = λ t l h. (
+    h,
+    fusion_reads-steps rows level factors t l.0.positive l.2.some (are_partitions factors l.2.written) h,
+    only (fusion rows level factors) t l h,
+  );
   says_over = λ l t h. h;
 })
-kind command = inl (record { answers = λ t e h. h; expands = λ t e h. h; over = λ i t e h. h; alone = λ i t e h. h; untold = λ t h. h; says = λ t l h. h; says_over = λ l t h. h })
+kind command = inl (record { answers = λ t e h. h; expands = λ t e h. h; over = λ i t e h. h; alone = λ i t e h. h; untold = λ t h. h; says = λ t l h. (h, only command t l h); says_over = λ l t h. h })

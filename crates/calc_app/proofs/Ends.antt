@@ -1,12 +1,13 @@
 -- The clauses of the contract of `run`, after an outcome was written, and after the lines of a batch were run. An outcome is a text with an *ending*,
 -- which is `done` or says which kind of refusal occurred.
-use Rattle.std.proofs.Common.{◌≡◌, ◌⊎◌, ℕ, List, [], ◌∷◌, ◌++◌, Bool, true, false, cond, map, Some, refl, sym, ◌∙◌, ap, subst, inl, inr, arith}
-use Rattle.std.specs.Prelude.{Ok}
+use Rattle.std.proofs.Common.{◌≡◌, ◌⊎◌, ℕ, List, [], ◌∷◌, ◌++◌, Bool, true, false, cond, map, Option, Some, None, refl, sym, ◌∙◌, ap, subst, inl, inr, arith}
+use Rattle.std.specs.Prelude.{Ok, is_some}
+use Rattle.std.specs.Io.KnownBytes.{append_known}
 use Rattle.calc_base.specs.declared.status.Status.{Status}
 use Rattle.calc_base.specs.declared.status.Status.TheVariants as status
 use Rattle.calc_base.specs.Puts.{Puts}
 use Rattle.calc_base.proofs.PutsLaws.{Appends-told}
-use Rattle.calc_base.specs.Sink.{SinkSeen, Appends}
+use Rattle.calc_base.specs.Sink.{SinkSeen, number_after, Appends}
 use Rattle.calc_base.specs.Source.{SourceSeen}
 use Rattle.calc_language.specs.BuiltCommands.{command_entries, batch_entries}
 use Rattle.calc_language.proofs.Entries.{kept_by_all}
@@ -26,7 +27,7 @@ use Rattle.calc_replies.specs.declared.outcome.Outcome.{Outcome}
 use Rattle.calc_replies.specs.declared.outcome.Task.{Task}
 use Rattle.calc_replies.specs.declared.outcome.Task.TheVariants.{Lines, Put}
 use Rattle.calc_replies.specs.Computed.{IsTaskFor, AcceptsTask, RefusesTask, TaskGoesWrong, status_for, text_of}
-use Rattle.calc_app.specs.Top.{IsOutcome, RunsLines, Leaves, PutsWhole, PutsOutcome, PrintsAnswerTo, SaysLine, SayLines, PrintsLines, CutsLines, HidesNoFault, IsEmptied, IsThrough, IsAccepted, AnswersWords}
+use Rattle.calc_app.specs.Top.{IsOutcome, RunsLines, Leaves, PutsWhole, PutsOutcome, PrintsAnswerTo, SaysLine, SayLines, PrintsLines, CutsLines, HidesNoFault, KeepsTold, IsEmptied, IsThrough, IsAccepted, AnswersWords}
 use Rattle.calc_app.specs.Batch.{EndsBatch}
 use Rattle.calc_app.proofs.Faults.{no_faults, sink_failed, ends_well}
 use Rattle.calc_app.proofs.Outcomes.{has_outcome, headline, leaves_whole, leaves_prefix, answers_say, not_done, accepted, refuses_offence, refuses_place, cut_answers}
@@ -166,12 +167,14 @@ lines_leave words old new source now Untouched status.NoMemory runs (inr l) = in
     front = l.1.front;
     piece = l.1.piece;
     took = l.1.took;
+    at_most = l.1.at_most;
     is_ended = l.1.is_ended;
     is_front = l.1.is_front;
     text = l.1.text;
     ending = l.1.ending;
     outcome = runs_outcome words l.1.front l.1.text l.1.ending runs l.1.outcome;
     appended = l.1.appended;
+    is_settled = l.1.is_settled;
   },
 )
 
@@ -261,3 +264,40 @@ lines_ran words old new source now Untouched result task e =
       faults = e.faults;
       all_read = λ runs. e.all_read;
     }
+
+-- ---- the clause `told` of `run`
+
+appends_kept : {old new : SinkSeen} {source now : SourceSeen} {text : List ℕ} → is_some now.left ≡ is_some source.left
+    → Appends old new text → KeepsTold old new source now
+appends_kept {old = old} {new = new} {text = text} left appended = record {
+  written = ap is_some appended.bytes ∙ bytes_kept old.written;
+  number = ap is_some appended.number ∙ number_kept old.length;
+  left = left;
+}
+  where
+    bytes_kept : (told : Option (List ℕ)) → is_some (append_known told text) ≡ is_some told
+    bytes_kept None = refl
+    bytes_kept (Some bytes) = refl
+
+    number_kept : (told : Option ℕ) → is_some (number_after told text) ≡ is_some told
+    number_kept None = refl
+    number_kept (Some n) = refl
+
+-- if the clause `leaves` holds for a status, and the source records the bytes that it has left if and only if it did before, what is recorded is
+-- unchanged
+pub kept_told : {old new : SinkSeen} {source now : SourceSeen} (Untouched Runs : Type 0) (Defined : List ℕ → List ℕ → Ending → Type 0) (result : Status)
+    → Leaves old new source now Untouched Runs Defined result → (Untouched → new ≡ old) → is_some now.left ≡ is_some source.left
+    → KeepsTold old new source now
+kept_told Untouched Runs Defined status.Done l same left = appends_kept left l.appended
+kept_told Untouched Runs Defined status.SomeRefused l same left = appends_kept left l.1.appended
+kept_told Untouched Runs Defined status.Syntax l same left = appends_kept left l.appended
+kept_told Untouched Runs Defined status.Range l same left = appends_kept left l.appended
+kept_told Untouched Runs Defined status.Past l same left = appends_kept left l.appended
+kept_told Untouched Runs Defined status.SinkFault l same left = appends_kept left l.appended.appends
+kept_told Untouched Runs Defined status.SourceFault l same left = appends_kept left l.1.appended
+kept_told Untouched Runs Defined status.NoMemory (inl h) same left = record {
+  written = ap (λ (s : SinkSeen). is_some s.written) (same h);
+  number = ap (λ (s : SinkSeen). is_some s.length) (same h);
+  left = left;
+}
+kept_told Untouched Runs Defined status.NoMemory (inr l) same left = appends_kept left l.1.appended

@@ -23,12 +23,12 @@ pub record Reads (input rest : List ℕ) (lines : List (List ℕ)) (pending : Li
   pub cut : input ≡ front ++ (pending ++ rest)
   pub state : Stands has_ended front (pending ++ rest) lines
 
--- `Reads` for a source that may not record its bytes. If the source does not record them, this says only that nothing is left in it if it was found
--- at its end.
+-- `Reads` for a source that may not record its bytes; whether it does is unchanged
 abbrev pub ReadsTold : Option (List ℕ) → Option (List ℕ) → List (List ℕ) → List ℕ → Bool → Type 0
 ReadsTold (Some input) (Some rest) lines pending has_ended = Reads input rest lines pending has_ended
 ReadsTold (Some input) None lines pending has_ended = ⊥
-ReadsTold None now lines pending has_ended = IsAtEnd has_ended now
+ReadsTold None (Some rest) lines pending has_ended = ⊥
+ReadsTold None None lines pending has_ended = Unit {0}
 
 pub begin_read : (left : Option (List ℕ)) → ReadsTold left left [] [] false
 begin_read None = tt
@@ -44,7 +44,8 @@ pub read_end : (left now : Option (List ℕ)) (lines : List (List ℕ)) (pending
 read_end left now lines pending false r = tt
 read_end (Some input) (Some rest) lines pending true r = none_behind pending rest r.state.0
 read_end (Some input) None lines pending true r = tt
-read_end None now lines pending true r = r
+read_end None (Some rest) lines pending true r = absurd r
+read_end None None lines pending true r = tt
 
 pub begin_spelled : IsEnded [] []
 begin_spelled = λ text. refl
@@ -112,10 +113,11 @@ read_more (Some input) (Some all) (Some rest) taken pending text behind lines ha
     at_feed input all rest taken pending text behind lines had r (told all rest taken took) n e
 read_more (Some input) (Some all) (Some rest) taken pending text behind lines had true r took n e =
     at_end input all rest taken pending text behind lines had r (told all rest taken took) n e.0 e.1
-read_more (Some input) (Some all) None taken pending text behind lines had has r took n e = absurd took
+read_more (Some input) (Some all) None taken pending text behind lines had has r took n e = cc
 read_more (Some input) None now taken pending text behind lines had has r took n e = absurd r
-read_more None before now taken pending text behind lines had false r took n e = tt
-read_more None before now taken pending text behind lines had true r took n e = e.0.none_left
+read_more None None None taken pending text behind lines had has r took n e = tt
+read_more None None (Some rest) taken pending text behind lines had has r took n e = cc
+read_more None (Some all) now taken pending text behind lines had has r took n e = absurd r
 
 -- after a line was read, fewer bytes are left to be read; the bytes that are left are the pending ones and those that the source may still give
 pub fewer_left : (allowance less : ℕ) (taken pending text behind : List ℕ) (now : Option (List ℕ)) (has : Bool) → less + length taken ≤ allowance
@@ -155,7 +157,7 @@ read_whole (Some input) (Some all) (Some rest) taken pending behind spelled line
   are = whole_told input all lines pending had r
       (ap (λ t. pending ++ t) (told all rest taken took ∙ ap (λ t. taken ++ t) e.none_left ∙ append-nil taken) ∙ e.whole);
 }
-read_whole (Some input) (Some all) None taken pending behind spelled lines had r ended took e = absurd took
+read_whole (Some input) (Some all) None taken pending behind spelled lines had r ended took e = cc
 read_whole (Some input) None now taken pending behind spelled lines had r ended took e = absurd r
 read_whole None before now taken pending behind spelled lines had r ended took e =
     record { input = spelled; is_input = tt; are = front_lines spelled lines ended }
@@ -191,7 +193,7 @@ read_cut (Some input) (Some all) (Some rest) taken pending spelled lines had r e
     record {
       front = r.front;
       took =
-          (r.cut ∙ ap (λ xs. r.front ++ (pending ++ xs)) bytes
+          ap Some (r.cut ∙ ap (λ xs. r.front ++ (pending ++ xs)) bytes
           ∙ ap (λ xs. r.front ++ xs) (sym (append_assoc pending taken rest)) ∙ sym (append_assoc r.front (pending ++ taken) rest));
       is_ended = by had bytes r.state;
       is_front = (f.1, f.2);
@@ -201,10 +203,12 @@ read_cut (Some input) (Some all) (Some rest) taken pending spelled lines had r e
     by : (had : Bool) → all ≡ taken ++ rest → Stands had r.front (pending ++ all) lines → IsWholeLines r.front ⊎ (◌≡◌ {A = Option (List ℕ)} (Some rest) (Some []))
     by false bytes s = inl s.1
     by true bytes s = inr (ap Some (none_behind taken rest (sym bytes ∙ none_behind pending all s.0)))
-read_cut (Some input) (Some all) None taken pending spelled lines had r ended whole took = absurd took
+read_cut (Some input) (Some all) None taken pending spelled lines had r ended whole took = cc
 read_cut (Some input) None now taken pending spelled lines had r ended whole took = absurd r
-read_cut None before now taken pending spelled lines had r ended whole took =
-    record { front = spelled; took = tt; is_ended = inl whole; is_front = tt; are = front_lines spelled lines ended }
+read_cut None None None taken pending spelled lines had r ended whole took =
+    record { front = spelled; took = refl; is_ended = inl whole; is_front = tt; are = front_lines spelled lines ended }
+read_cut None None (Some rest) taken pending spelled lines had r ended whole took = cc
+read_cut None (Some all) now taken pending spelled lines had r ended whole took = absurd r
 
 -- `front` is the text of the first lines `lines` of the source, and `piece`, which has no line feed, was read after it
 pub record Part (left now : Option (List ℕ)) (lines : List (List ℕ)) : Type 0 where
@@ -224,14 +228,16 @@ read_part (Some input) (Some all) (Some rest) pending spelled lines r ended whol
       front = r.front;
       piece = pending ++ t.taken;
       took =
-          (r.cut ∙ ap (λ xs. r.front ++ (pending ++ xs)) (told all rest t.taken t.took)
+          ap Some (r.cut ∙ ap (λ xs. r.front ++ (pending ++ xs)) (told all rest t.taken t.took)
           ∙ ap (λ xs. r.front ++ xs) (sym (append_assoc pending t.taken rest)) ∙ sym (append_assoc r.front (pending ++ t.taken) rest));
       no_feed = t.no_feed;
       is_whole = r.state.1;
       is_front = (f.1, f.2);
       are = f.0;
     }
-read_part (Some input) (Some all) None pending spelled lines r ended whole t = absurd t.took
+read_part (Some input) (Some all) None pending spelled lines r ended whole t = let clash = t.took in cc
 read_part (Some input) None now pending spelled lines r ended whole t = absurd r
-read_part None before now pending spelled lines r ended whole t =
-    record { front = spelled; piece = []; took = tt; no_feed = tt; is_whole = whole; is_front = tt; are = front_lines spelled lines ended }
+read_part None None None pending spelled lines r ended whole t =
+    record { front = spelled; piece = []; took = refl; no_feed = tt; is_whole = whole; is_front = tt; are = front_lines spelled lines ended }
+read_part None None (Some rest) pending spelled lines r ended whole t = let clash = t.took in cc
+read_part None (Some all) now pending spelled lines r ended whole t = absurd r

@@ -1,11 +1,12 @@
 -- A batch: its lines are run one after another, and each line that is not skipped has an outcome; and the state at the end of the batch. *Pending*
 -- bytes are bytes that were taken from the source and not yet read as part of a line.
 use Rattle.std.specs.Prelude.{◌≡◌, ℕ, List, Bool, false, Option, Some, None, Result, Ok, Err}
+use Rattle.std.specs.Prelude.{is_some}
 use Rattle.batch_lines.specs.declared.next.LineFault.{LineFault}
 use Rattle.batch_lines.specs.declared.next.LineFault.TheVariants as line_fault
 use Rattle.batch_lines.specs.declared.next.Next.{Next}
 use Rattle.batch_lines.specs.declared.next.Next.TheVariants as next
-use Rattle.batch_lines.specs.Reading.{ReadsNext, TookPart}
+use Rattle.batch_lines.specs.Reading.{ReadsNext, TookPart, TookLineAtMost}
 use Rattle.calc_base.specs.declared.status.Status.{Status}
 use Rattle.calc_base.specs.declared.status.Status.TheVariants as status
 use Rattle.calc_base.specs.declared.words.WordsFault.{WordsFault}
@@ -64,13 +65,13 @@ pub record TakesTurn (before now : SourceSeen) (pending left_pending : List ℕ)
   pub is : IsTurn read line turn
 
 -- if the result is `SourceFault`, the source had not ended before, and neither the pending bytes nor those that were
--- taken from the source have a line feed
+-- taken from the source have a line feed; if it is `NoMemory`, they have at most one complete line
 abbrev pub CutsTurn : (before now : Option (List ℕ)) → List ℕ → (had_ended : Bool)
     → Result Turn LineFault → Type 0
 CutsTurn before now pending had_ended (Ok turn) = Unit {0}
 CutsTurn before now pending had_ended (Err line_fault.SourceFault) =
     (had_ended ≡ false) × TookPart before now pending
-CutsTurn before now pending had_ended (Err line_fault.NoMemory) = Unit {0}
+CutsTurn before now pending had_ended (Err line_fault.NoMemory) = TookLineAtMost before now pending
 
 -- the source's count of faults is one more (`Rose`) if the result is `SourceFault`, and unchanged otherwise
 abbrev pub CountsTurn : (before now : ℕ) → Result Turn LineFault → Type 0
@@ -82,10 +83,11 @@ CountsTurn before now (Err line_fault.NoMemory) = now ≡ before
 
 -- The state at the end of a batch. Which bytes were written to the sink depends on the status (`Leaves`), and the counts of faults agree with the
 -- status (`HidesNoFault`). If the status is that of a batch read to its end, the whole input was read. After a fault of the sink, `CutsLines` relates
--- the lines that were read to those whose blocks were written.
+-- the lines that were read to those whose blocks were written. Whether the source records the bytes that it has left is unchanged.
 pub record EndsBatch (old new : SinkSeen) (source now : SourceSeen) (Untouched : Type 0)
     (result : Status) : Type 0 where
   pub leaves : Leaves old new source now Untouched (Unit {0}) (RunsInput batch_entries) result
   pub faults : HidesNoFault old new source now result
   pub all_read : IsThrough result → IsEmptied now.left
   pub cut : result ≡ status.SinkFault → CutsLines old new source now
+  pub told : is_some now.left ≡ is_some source.left

@@ -2,7 +2,7 @@
 -- an *ending*, which is `done` or says which kind of refusal occurred. The *block* of a line of a batch is the text of its answer or refusal, with
 -- its ending.
 use Rattle.std.specs.Prelude.{◌≡◌, ◌≢◌, ◌⊎◌, ◌+◌, ◌≤◌, ℕ, List, [], ◌∷◌, ◌++◌, length, Bool, true}
-use Rattle.std.specs.Prelude.{codes, map, Option, Some, IfSome}
+use Rattle.std.specs.Prelude.{codes, map, Option, Some, IfSome, is_some}
 use Rattle.calc_base.specs.declared.status.Status.{Status}
 use Rattle.calc_base.specs.declared.status.Status.TheVariants.{Done, SomeRefused, Syntax, Range}
 use Rattle.calc_base.specs.declared.status.Status.TheVariants.{Past, SinkFault, SourceFault}
@@ -13,7 +13,7 @@ use Rattle.calc_base.specs.Sink.{SinkSeen, Appends, AppendsPrefix, IsPrefix}
 use Rattle.calc_base.specs.Source.{SourceSeen}
 use Rattle.batch_lines.specs.Ends.{status_where}
 use Rattle.batch_lines.specs.Feeds.{HasNoFeed}
-use Rattle.batch_lines.specs.Reading.{Took, most_pending}
+use Rattle.batch_lines.specs.Reading.{Took, HasLineAtMost, most_pending}
 use Rattle.sym_model.specs.BatchLine.{BatchLine, too_long, passed_over, spoken, batch_line}
 use Rattle.sym_model.specs.BatchLine.{lines_of}
 use Rattle.sym_model.specs.BatchOutcome.{Block, AreBlocks, batch_text, RunsInput, RunsWorkload}
@@ -92,19 +92,22 @@ pub record PutsPrefix (old new : SinkSeen) (source : SourceSeen)
   pub outcome : Defined front text ending
   pub appended : AppendsPrefix old new text
 
--- The whole text of an outcome over the first lines of the input was appended. Those lines and a piece after them
--- were read; each of the lines ends within the bytes read, at a line feed or because nothing is left in the source.
+-- The whole text of an outcome over the first lines of the input was appended, and `finish` succeeded after it. Those lines and a piece after them,
+-- which has at most one complete line, were read; each of the lines ends within the bytes read, at a line feed or because nothing is left in the
+-- source.
 pub record PutsFront (old new : SinkSeen) (source now : SourceSeen)
     (Defined : List ℕ → List ℕ → Ending → Type 0) : Type 0 where
   pub front : List ℕ
   pub piece : List ℕ
   pub took : Took source.left now.left (front ++ piece)
+  pub at_most : HasLineAtMost piece
   pub is_ended : IsWholeLines front ⊎ (now.left ≡ Some [])
   pub is_front : IsFrontOf source.left front
   pub text : List ℕ
   pub ending : Ending
   pub outcome : Defined front text ending
   pub appended : Appends old new text
+  pub is_settled : new.settled ≡ true
 
 -- The whole text of an outcome over the lines that were read completely was appended, and `finish` succeeded after
 -- it. The piece that was read after those lines has no line feed.
@@ -124,8 +127,8 @@ pub record PutsRead (old new : SinkSeen) (source now : SourceSeen)
 
 -- The bytes that a command leaves in the sink, by its status. After a fault of the sink: a prefix of the text of an outcome over the first lines of
 -- the input. After a fault of the source: the text of an outcome over the lines read completely, with a successful `finish` after it. If memory ran
--- out: no bytes or, if lines are run, the text of an outcome over the first lines. For any other status: the whole text of an outcome, with a
--- successful `finish` after it. `Untouched` says that no call of the sink was made, and `Runs` that lines are run; only then can the status be
+-- out: no bytes or, if lines are run, the text of an outcome over the first lines, with a successful `finish` after it. For any other status: the
+-- whole text of an outcome, with a successful `finish` after it. `Untouched` says that no call of the sink was made, and `Runs` that lines are run; only then can the status be
 -- `SomeRefused` or `SourceFault`.
 abbrev pub Leaves : (old new : SinkSeen) (source now : SourceSeen) (Untouched Runs : Type 0)
     → (List ℕ → List ℕ → Ending → Type 0) → Status → Type 0
@@ -153,19 +156,31 @@ pub record HidesNoFault (old new : SinkSeen) (source now : SourceSeen)
   pub no_source_fault : status ≢ SourceFault → status ≢ SinkFault → now.faults ≡ source.faults
   pub source_later : source.faults ≤ now.faults
 
+-- whether the sink records its bytes and their number, and the source the bytes that it has left, is unchanged
+pub record KeepsTold (old new : SinkSeen) (source now : SourceSeen) : Type 0 where
+  pub written : is_some new.written ≡ is_some old.written
+  pub number : is_some new.length ≡ is_some old.length
+  pub left : is_some now.left ≡ is_some source.left
+
 -- ---- the clause `headline`: the text that was written is the answer
+
+-- the text is the only one that reads back as the answer to the command
+abbrev pub IsOnlyText : Command → List ℕ → Type 0
+IsOnlyText command text = (other : List ℕ) → ReadsBack command other → other ≡ text
 
 -- The meaning of the text of a command that runs no lines. For `tab`, `rsk`, `unrsk`, `rect` and `growth` it is the text of the answer (`Answers`).
 -- For any other command the text reads back as a canonical list of terms (labels in the printed order, coefficients in lowest terms and not 0), which
--- is the answer to the command; for `quantum` and `fusion` this list also results if the product is reduced (by rim hooks, or into the alcove) after
--- each factor.
+-- is the answer to the command, and no other text reads back as its answer; for `quantum` and `fusion` this list also results if the product is
+-- reduced (by rim hooks, or into the alcove) after each factor.
 abbrev pub Says : Command → List ℕ → Type 0
 Says (quantum rows columns factors) text =
     ReadsBack (quantum rows columns factors) text
     × ReadsReducedInSteps rows (rows + columns) factors text
+    × IsOnlyText (quantum rows columns factors) text
 Says (fusion rows level factors) text =
     ReadsBack (fusion rows level factors) text
     × ReadsReflectedInSteps rows (rows + level) factors text
+    × IsOnlyText (fusion rows level factors) text
 Says (tab outer inner last) text = Answers (tab outer inner last) text done
 Says (rsk w) text = Answers (rsk w) text done
 Says (unrsk p q) text = Answers (unrsk p q) text done
@@ -173,7 +188,7 @@ Says (rect outer inner rows) text = Answers (rect outer inner rows) text done
 Says (growth w) text = Answers (growth w) text done
 Says batch text = ⊥
 Says (work lines seed) text = ⊥
-Says command text = ReadsBack command text
+Says command text = ReadsBack command text × IsOnlyText command text
 
 -- The meaning of the text of every command. For `batch` it consists of the blocks of the lines of some input, which is what the source had left if
 -- the source records that, and no line was refused; for `work` it is the text of the sums over the blocks of its lines; for any other command it is
@@ -186,7 +201,8 @@ SaysOver left command text = Says command text
 
 -- The clause `headline`: the words spell a command without an error, and the text that was appended to the bytes written before is the answer to this
 -- command. For `tab`, `rsk`, `unrsk`, `rect` and `growth` it is the text of the answer, for `batch` the blocks of its lines, and for `work` the sums
--- over these blocks; for any other command it reads back as a canonical list of terms (labels in order, coefficients in lowest terms and not 0). For
+-- over these blocks; for any other command it is the only text that reads back as the answer: a canonical list of terms (labels in order, coefficients
+-- in lowest terms and not 0). For
 -- `expand m` and an expression, for example, this list, read in the monomial basis, is the expression in every number of variables.
 pub record PrintsAnswerTo (words : List (List ℕ)) (before : List ℕ)
     (left now : Option (List ℕ)) : Type 0 where
@@ -247,15 +263,15 @@ pub record PutsBlocks (old new : SinkSeen) (lines : List BatchLine) : Type 0 whe
 
 -- The state after a fault of the sink in a batch. The lines of `front` were read, all completely. Either the blocks
 -- of all these lines but the last were written whole, followed by a prefix of the last block, and at most 4,096 bytes
--- were taken from the source after the lines; or the blocks of all lines were written whole, `finish` failed, and no
--- complete line was taken from the source after them.
+-- were taken from the source after the lines; or the blocks of all lines were written whole, `finish` failed, and at most
+-- one complete line was taken from the source after them (one, if memory ran out for it).
 pub record CutsLines (old new : SinkSeen) (source now : SourceSeen) : Type 0 where
   pub front : List ℕ
   pub piece : List ℕ
   pub took : Took source.left now.left (front ++ piece)
   pub is_ended : IsWholeLines front ⊎ (now.left ≡ Some [])
   pub puts : (CutsBlock old new (map batch_line (lines_of front)) × (length piece ≤ most_pending))
-      ⊎ (PutsBlocks old new (map batch_line (lines_of front)) × HasNoFeed piece)
+      ⊎ (PutsBlocks old new (map batch_line (lines_of front)) × HasLineAtMost piece)
 
 -- ---- the clause `answers`: words are answered or refused
 

@@ -43,7 +43,8 @@ enum Turn {
 /// The block of a line is written before the next line is run; only Schubert polynomials are stored
 /// for later lines. After each line, also one that is skipped, `finish` is called on the sink if
 /// the bytes read so far have no further complete line. If the source fails, the run ends after the
-/// lines read completely, and `finish` is called. If memory runs out, the run ends.
+/// lines read completely, and `finish` is called. If memory runs out for a line, the run ends after
+/// the lines before it, and `finish` is called.
 pub(crate) fn batch<S: Source, K: Sink>(alloc: Global, source: &mut S, sink: &mut K) -> Status
     ensures { EndsBatch (K.seen sink.old) (K.seen sink.new) (S.seen source.old) (S.seen source.new)
         (sink.new ≡ sink.old) result }
@@ -75,7 +76,7 @@ pub(crate) fn batch<S: Source, K: Sink>(alloc: Global, source: &mut S, sink: &mu
             }
             Ok(Turn::Last) => return finished(at_end(progress), sink),
             Err(LineFault::SourceFault) => return finished(Status::SourceFault, sink),
-            Err(LineFault::NoMemory) => return Status::NoMemory,
+            Err(LineFault::NoMemory) => return finished(Status::NoMemory, sink),
         }
     }
 }
@@ -89,6 +90,7 @@ pub(crate) fn new_memo(alloc: Global) -> Result<Memo, NoMemory>
 
 /// Reads the next line and computes its outcome; `Passed` if the line is skipped, `Last` at the
 /// end.
+#[tactic(auto, using(batch_lines::proofs::NextLines::reads_at_most))]
 fn next_turn<S: Source>(
     alloc: Global,
     memo: &mut Memo,

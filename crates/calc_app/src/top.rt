@@ -4,8 +4,8 @@ ghost use Rattle.std.specs.Prelude.{◌≡◌, ℕ, List, Some, map, string_byte
 ghost use Rattle.calc_base.specs.Sink.{Appends};
 ghost use Rattle.calc_replies.specs.Computed.{HasText};
 ghost use Rattle.calc_app.specs.Top.{AnswersWords, CutsLines, HidesNoFault, IsEmptied, IsOutcome};
-ghost use Rattle.calc_app.specs.Top.{IsThrough, Leaves, PrintsAnswerTo, PrintsLines, PutsOutcome};
-ghost use Rattle.calc_app.specs.Top.{RunsLines};
+ghost use Rattle.calc_app.specs.Top.{IsThrough, KeepsTold, Leaves, PrintsAnswerTo, PrintsLines};
+ghost use Rattle.calc_app.specs.Top.{PutsOutcome, RunsLines};
 
 use crate::batch::batch;
 use crate::workload::work;
@@ -31,7 +31,7 @@ use std::alloc::Global;
 ///
 /// Returns `SinkFault` if and only if a call of the sink failed; the sink is not called after that.
 /// If memory runs out it returns `NoMemory` and writes nothing, except that a batch has written the
-/// earlier answers.
+/// earlier answers and called `finish`.
 ///
 /// `batch` runs each line of the source as a command, and writes its block, the text of its answer
 /// or refusal, as soon as the line is read, with the line `--` between two blocks; after a block,
@@ -47,7 +47,7 @@ pub fn run<S: Source, K: Sink>(
 ) -> Status
     // If the status is `Done`, the text can be read back as a list of terms in the printed order
     // (labels strictly increasing; coefficients in lowest terms, not 0). That list is the answer to
-    // the command, as it is defined by polynomials.
+    // the command, as it is defined by polynomials, and no other text can be read back as it.
     //
     // For `quantum` and `fusion` the list also results if the product is reduced (by rim hooks, or
     // into the alcove) after each factor. For `tab`, `rsk`, `unrsk`, `rect` and `growth` the text
@@ -65,7 +65,8 @@ pub fn run<S: Source, K: Sink>(
 
     // If the sink failed in a batch (`CutsLines`), either the blocks of all lines that were read,
     // except the last, were written whole, followed by a prefix of the last block; or the blocks of
-    // all these lines were written whole, and `finish` failed.
+    // all these lines were written whole, and `finish` failed. In the second case one further line
+    // may have been read, for which memory ran out.
     ensures cut { RunsLines (map string_bytes words.now) → result ≡ Status.SinkFault
         → CutsLines (K.seen sink.old) (K.seen sink.new) (S.seen source.old) (S.seen source.new) }
 
@@ -73,7 +74,8 @@ pub fn run<S: Source, K: Sink>(
     // (`IsOutcome`), and `finish` succeeded after it. After a fault of the sink it is a prefix of
     // the text of an outcome. After a fault of the source it consists of the blocks of the lines
     // read completely, and `finish` succeeded after it. If memory ran out, it is empty or, in a
-    // batch, consists of the blocks of the first lines.
+    // batch, consists of the blocks of all lines that were read before, and `finish` succeeded after
+    // it.
     ensures leaves { Leaves (K.seen sink.old) (K.seen sink.new) (S.seen source.old)
         (S.seen source.new) (sink.new ≡ sink.old)
         (RunsLines (map string_bytes words.now)) (IsOutcome (map string_bytes words.now)) result }
@@ -89,6 +91,11 @@ pub fn run<S: Source, K: Sink>(
     // No fault of the sink or of the source is hidden by the status (`HidesNoFault`).
     ensures faults { HidesNoFault (K.seen sink.old) (K.seen sink.new) (S.seen source.old)
         (S.seen source.new) result }
+
+    // Whether the sink records its bytes and their number, and the source the bytes that it has
+    // left, is unchanged.
+    ensures told { KeepsTold (K.seen sink.old) (K.seen sink.new) (S.seen source.old)
+        (S.seen source.new) }
 
     // If a batch ends with `Done` or `SomeRefused`, the source was read to its end. Commands other
     // than `batch` do not touch the source.

@@ -3,51 +3,51 @@
 -- `finish` after it, `Puts-stopped` after a failed call, and `Puts-prints` for the result of a printer.
 use Rattle.std.proofs.Common.{◌≡◌, ℕ, ◌+◌, min, max, List, [], ◌++◌, length, Option, Some, None, Bool, true, false, refl, sym, ◌∙◌, ap, subst, arith, append_assoc, append-nil, length-append}
 use Rattle.std.specs.Prelude.{Result, Ok, Err, is_ok}
-use Rattle.std.specs.Io.KnownBytes.{Appends as Grows}
-use Rattle.std.proofs.KnownBytes.{Appends-trans as Grows-trans, Appends-nil as Grows-nil}
+use Rattle.std.specs.Io.KnownBytes.{append_known}
 use Rattle.calc_base.specs.Fault.{counted_up, Rose}
-use Rattle.calc_base.specs.Sink.{SinkSeen, greatest_length, IsLonger, Appends, AppendsPrefix}
+use Rattle.calc_base.specs.Sink.{SinkSeen, greatest_length, number_after, Appends, AppendsPrefix}
 use Rattle.calc_base.specs.Puts.{Puts, Prints}
 
-number-number : (n a b c limit : ℕ) → c ≡ a + b
-    → max (max n (min (n + a) limit)) (min (max n (min (n + a) limit) + b) limit) ≡ max n (min (n + c) limit)
-number-number n a b c limit e = omega arith
+bytes-then : (told : Option (List ℕ)) (a b : List ℕ) → append_known (append_known told a) b ≡ append_known told (a ++ b)
+bytes-then None a b = refl
+bytes-then (Some bytes) a b = ap Some (append_assoc bytes a b)
 
-longer-longer : (before mid now : Option ℕ) (a b : List ℕ) → IsLonger before mid a → IsLonger mid now b → IsLonger before now (a ++ b)
-longer-longer None mid now a b h k = tt
-longer-longer (Some n) mid now a b h k =
-    subst (λ told. IsLonger told now b) h k
-    ∙ ap Some (number-number n (length a) (length b) (length (a ++ b)) greatest_length (length-append a b))
+bytes-nothing : (told : Option (List ℕ)) → told ≡ append_known told []
+bytes-nothing None = refl
+bytes-nothing (Some bytes) = ap Some (sym (append-nil bytes))
 
-longer-nothing : (told : Option ℕ) → IsLonger told told []
-longer-nothing None = tt
-longer-nothing (Some n) = ap Some (number-nothing n greatest_length)
+number-then : (told : Option ℕ) (a b : List ℕ) → number_after (number_after told a) b ≡ number_after told (a ++ b)
+number-then None a b = refl
+number-then (Some n) a b = ap Some (numbers n (length a) (length b) (length (a ++ b)) greatest_length (length-append a b))
   where
-    number-nothing : (n limit : ℕ) → n ≡ max n (min (n + 0) limit)
-    number-nothing n limit = omega arith
+    numbers : (n a b c limit : ℕ) → c ≡ a + b
+        → max (max n (min (n + a) limit)) (min (max n (min (n + a) limit) + b) limit) ≡ max n (min (n + c) limit)
+    numbers n a b c limit e = omega arith
+
+number-nothing : (told : Option ℕ) → told ≡ number_after told []
+number-nothing None = refl
+number-nothing (Some n) = ap Some (same n greatest_length)
+  where
+    same : (n limit : ℕ) → n ≡ max n (min (n + 0) limit)
+    same n limit = omega arith
 
 -- ---- texts appended one after another (`Appends` and `AppendsPrefix`)
 
 pub Appends-then : {old mid new : SinkSeen} {a b : List ℕ}
     → Appends old mid a → Appends mid new b → Appends old new (a ++ b)
 Appends-then {old = old} {mid = mid} {new = new} {a = a} {b = b} first second = record {
-  bytes = Grows-trans old.written mid.written new.written a b first.bytes second.bytes;
-  number = longer-longer old.length mid.length new.length a b first.number second.number;
+  bytes = second.bytes ∙ ap (λ told. append_known told b) first.bytes ∙ bytes-then old.written a b;
+  number = second.number ∙ ap (λ told. number_after told b) first.number ∙ number-then old.length a b;
 }
 
 pub Appends-nothing : (s : SinkSeen)
     → Appends s s []
-Appends-nothing s = record { bytes = Grows-nil s.written; number = longer-nothing s.length }
+Appends-nothing s = record { bytes = bytes-nothing s.written; number = number-nothing s.length }
 
 -- if the sink had recorded the bytes `before` and a text was appended, it records `before` followed by the text
 pub Appends-told : {old new : SinkSeen} {text : List ℕ} (before : List ℕ)
     → Appends old new text → old.written ≡ Some before → new.written ≡ Some (before ++ text)
-Appends-told {old = old} {new = new} {text = text} before h told = by old.written new.written told h.bytes
-  where
-    by : (a b : Option (List ℕ)) → a ≡ Some before → Grows a b text → b ≡ Some (before ++ text)
-    by None b e g = cc
-    by (Some x) None e g = absurd g
-    by (Some x) (Some y) e g = let same : x ≡ before = cc in ap Some (g ∙ ap (λ t. t ++ text) same)
+Appends-told {text = text} before h told = h.bytes ∙ ap (λ bytes. append_known bytes text) told
 
 pub AppendsPrefix-more : {old new : SinkSeen} {a : List ℕ} (b : List ℕ)
     → AppendsPrefix old new a → AppendsPrefix old new (a ++ b)

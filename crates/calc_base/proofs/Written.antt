@@ -1,7 +1,8 @@
--- The bytes of a writer after several writes, if they are known.
-use Rattle.std.proofs.Common.{◌≡◌, ℕ, ◌+◌, ◌-◌, List, ◌++◌, length, take, drop, Option, Some, None, sym, ◌∙◌, ap, subst, append_assoc, length-drop}
+-- The bytes of a writer after several writes, and those of a reader after a read, if they are known.
+use Rattle.std.proofs.Common.{◌≡◌, ℕ, ◌+◌, ◌-◌, List, ◌++◌, length, take, drop, Option, Some, None, true, false, refl, sym, ◌∙◌, ap, subst, append_assoc, length-drop}
+use Rattle.std.specs.Prelude.{is_some}
 use Rattle.std.proofs.Math.Seq.{take-add, take-length}
-use Rattle.std.specs.Io.KnownBytes.{Appends}
+use Rattle.std.specs.Io.KnownBytes.{Appends, Consumes, Keeps, prepend_known}
 
 Appends-append : (before between after : Option (List ℕ)) (a b : List ℕ)
     → Appends before between a → Appends between after b → Appends before after (a ++ b)
@@ -24,3 +25,18 @@ Appends-more before between after bytes left at count is_left first second =
 
     joined : take at bytes ++ take count left ≡ take (at + count) bytes
     joined = ap (λ t. take at bytes ++ take count t) all_left ∙ sym (take-add at count bytes)
+
+-- ---- a reader of which the bytes are known after a read if and only if they were before
+
+pub taken_as : (before now : Option (List ℕ)) (bytes : List ℕ) → is_some now ≡ is_some before → Consumes before now bytes
+    → before ≡ prepend_known bytes now
+taken_as None None bytes same h = refl
+taken_as None (Some y) bytes same h = let clash : true ≡ false = same in cc
+taken_as (Some x) None bytes same h = absurd h
+taken_as (Some x) (Some y) bytes same h = ap Some h
+
+pub kept_as : (before now : Option (List ℕ)) → is_some now ≡ is_some before → Keeps before now → now ≡ before
+kept_as None None same h = refl
+kept_as None (Some y) same h = let clash : true ≡ false = same in cc
+kept_as (Some x) None same h = absurd h
+kept_as (Some x) (Some y) same h = ap Some h

@@ -5,6 +5,9 @@ ghost use Rattle.calc_base.specs.declared.faults.SumFault.TheVariants.{Large as 
 use std::alloc::{AllocError, AllocFailed};
 use thiserror::Error;
 
+/// The limit 2^127: a number that is at least as great is too large.
+pub const LIMIT: u128 = 1 << 127;
+
 /// Memory could not be allocated.
 #[derive(Clone, Copy, Debug, PartialEq, Eq, Hash, Error)]
 #[error("out of memory")]

@@ -6,7 +6,7 @@
 //! The contracts of the traits `Source`, `Sink` and `Lister`. For the sources and sinks in memory,
 //! functions in specs/ define which calls fail and the state after each call. `StdIn` and `StdOut`
 //! satisfy the contracts of their traits, and if a call of `finish` succeeds, the buffer of
-//! `StdOut` is empty. A call that succeeds leaves the count of faults unchanged, and one that fails
+//! `StdOut` is empty. No call changes whether the bytes of a source or sink are recorded. A call that succeeds leaves the count of faults unchanged, and one that fails
 //! adds 1, but not beyond 2^64 - 1. `put_if` writes a text whole, or a prefix of it. `mixed` is the
 //! number with the given digits to a fixed base, modulo 2^64.
 #![tactic(auto)]
@@ -25,12 +25,13 @@ mod source;
 mod status;
 mod std_in;
 mod std_out;
+mod steady;
 mod word;
 mod words;
 mod writing;
 
 pub use count_sink::CountSink;
-pub use faults::{Large, NoMemory, SinkFault, SourceFault, SumFault};
+pub use faults::{LIMIT, Large, NoMemory, SinkFault, SourceFault, SumFault};
 pub use fixed_sink::FixedSink;
 pub use growing_sink::GrowingSink;
 pub use hashing::mixed;
@@ -42,6 +43,7 @@ pub use source::Source;
 pub use status::Status;
 pub use std_in::StdIn;
 pub use std_out::StdOut;
+pub use steady::{SteadyRead, SteadyWrite};
 pub use word::Word;
 pub use words::{Basis, Place, Weight, WordsFault};
 pub use writing::put_if;

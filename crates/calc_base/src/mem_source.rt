@@ -1,6 +1,5 @@
 //! A source over bytes in memory, at which chosen calls fail.
 ghost use Rattle.std.specs.Prelude.{◌≡◌, ◌<◌, ◌≤◌, Some, length, take, drop, IfOk, OnErr, is_err};
-ghost use Rattle.std.specs.Io.KnownBytes.{Keeps};
 ghost use Rattle.calc_base.specs.Fault.{CountsFaults};
 ghost use Rattle.calc_base.specs.Source.{Takes, Spends};
 ghost use Rattle.calc_base.specs.Supply.{Supply, supply_seen, is_listed, given_count, after_take};
@@ -76,7 +75,7 @@ impl Source for MemSource {
 
         // The contract of `take` of the trait `Source`.
         ensures ok { IfOk result (Takes (Some self.old.rest) (Some self.new.rest) buf.new) }
-        ensures err { OnErr result (Keeps (Some self.old.rest) (Some self.new.rest)) }
+        ensures err { OnErr result (Some self.new.rest ≡ Some self.old.rest) }
         ensures spends { Spends (length self.old.rest) (length self.new.rest) result }
         ensures counts { CountsFaults self.old.failed self.new.failed result }
 

@@ -6,8 +6,9 @@ ghost use Rattle.calc_base.specs.Sink.{SinkSeen, Appends, AppendsPrefix, IsCount
 use crate::SinkFault;
 
 /// A sink of bytes. It may record the bytes written, or only their number; each call of `put`
-/// extends this record. If a sink records nothing, the contracts say nothing of its bytes, as the
-/// standard library says nothing of a writer whose bytes are not known.
+/// extends this record. No call changes which of the two are recorded. If a sink records nothing,
+/// the contracts say nothing of its bytes, as the standard library says nothing of a writer whose
+/// bytes are not known.
 pub trait Sink {
     /// The visible state of the sink: the bytes so far (`written`) and their number, capped at
     /// 2^128 - 1 (`length`), each if it is recorded; the number of failed calls, capped at 2^64 - 1

@@ -1,13 +1,12 @@
 //! Sources, from which bytes are read.
-ghost use Rattle.std.specs.Prelude.{◌<◌, length, IfOk, OnErr};
-ghost use Rattle.std.specs.Io.KnownBytes.{Keeps};
+ghost use Rattle.std.specs.Prelude.{◌≡◌, ◌<◌, length, IfOk, OnErr};
 ghost use Rattle.calc_base.specs.Fault.{CountsFaults};
 ghost use Rattle.calc_base.specs.Source.{SourceSeen, Takes, Spends};
 
 use crate::SourceFault;
 
 /// A source of bytes. It may record the bytes that are left; each call of `take` shortens this
-/// record.
+/// record. No call changes whether they are recorded.
 pub trait Source {
     /// The visible state of the source: the bytes that are left, if it records them (`left`); a
     /// number that decreases by at least the number of bytes read, so that a loop in which each
@@ -21,7 +20,7 @@ pub trait Source {
     fn take(&mut self, buf: &mut [u8]) -> Result<usize, SourceFault>
         requires { 0 < length buf.old }
         ensures ok { IfOk result (Takes (seen self.old).left (seen self.new).left buf.new) }
-        ensures err { OnErr result (Keeps (seen self.old).left (seen self.new).left) }
+        ensures err { OnErr result ((seen self.new).left ≡ (seen self.old).left) }
         ensures spends { Spends (seen self.old).allowance (seen self.new).allowance result }
         ensures counts { CountsFaults (seen self.old).faults (seen self.new).faults result };
 }

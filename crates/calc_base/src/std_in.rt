@@ -1,12 +1,10 @@
 //! The source over the program's input.
 ghost use Rattle.std.specs.Prelude.{◌≡◌, ◌+◌, ◌^◌, ◌<◌, length, IfOk, OnErr, IsErr};
-ghost use Rattle.std.specs.Io.KnownBytes.{Keeps};
 ghost use Rattle.calc_base.specs.Fault.{CountsFaults};
 ghost use Rattle.calc_base.specs.Source.{Takes, Spends};
 ghost use Rattle.calc_base.specs.Edge.{Intake, intake_seen};
 
-use crate::{Source, SourceFault};
-use std::io::Read;
+use crate::{Source, SourceFault, SteadyRead};
 use std::marker::Model;
 
 const ALLOWANCE: u64 = 1 << 62;
@@ -39,7 +37,7 @@ impl<R> StdIn<R> {
     }
 }
 
-impl<R: Read> Source for StdIn<R> {
+impl<R: SteadyRead> Source for StdIn<R> {
     ghost seen = { intake_seen R.remaining };
 
     /// Reads once from the reader. It fails if the read fails, or if the allowance, the number of
@@ -50,8 +48,7 @@ impl<R: Read> Source for StdIn<R> {
         // The contract of `take` of the trait `Source`.
         ensures ok { IfOk result (Takes (R.remaining self.old.reader)
             (R.remaining self.new.reader) buf.new) }
-        ensures err { OnErr result (Keeps (R.remaining self.old.reader)
-            (R.remaining self.new.reader)) }
+        ensures err { OnErr result (R.remaining self.new.reader ≡ R.remaining self.old.reader) }
         ensures spends { Spends self.old.allowance self.new.allowance result }
         ensures counts { CountsFaults self.old.failed self.new.failed result }
 

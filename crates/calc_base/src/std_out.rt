@@ -1,13 +1,15 @@
 //! The sink over the program's output.
-ghost use Rattle.std.specs.Prelude.{◌≡◌, [], List, ℕ, false, OnOk, is_ok, OnErr};
+ghost use Rattle.std.specs.Prelude.{◌≡◌, [], List, ℕ, None, Some, false, OnOk, is_ok, OnErr};
+ghost use Rattle.std.specs.Prelude.{refl};
 ghost use Rattle.std.specs.Bool.{OnTrue};
 ghost use Rattle.std.specs.Io.KnownBytes.{Appends as WriterAppends};
 ghost use Rattle.std.specs.Io.Buffered.{writer_inner, writer_buffer};
 ghost use Rattle.calc_base.specs.Fault.{CountsFaults};
-ghost use Rattle.calc_base.specs.Sink.{Appends, AppendsPrefix, IsPrefix, counts_told};
+ghost use Rattle.calc_base.specs.Sink.{Appends, AppendsPrefix, IsCounted, IsPrefix};
+ghost use Rattle.calc_base.specs.Sink.{number_told};
 ghost use Rattle.calc_base.specs.Edge.{Outlet, outlet_seen, told_bytes, is_handed_on};
 
-use crate::{Sink, SinkFault};
+use crate::{Sink, SinkFault, SteadyWrite};
 use std::io::{BufWriter, Write};
 use std::marker::Model;
 
@@ -49,7 +51,7 @@ impl<W: Write + Drop> StdOut<W> {
     }
 }
 
-impl<W: Write + Drop> Sink for StdOut<W> {
+impl<W: SteadyWrite + Drop> Sink for StdOut<W> {
     /// The visible state of the sink (`SinkSeen`). Its bytes are those that the writer has
     /// received, if they are known, followed by those in the buffer of the `BufWriter`. Its flag
     /// `settled` is true if the last call was a `finish` that succeeded and this buffer is empty.
@@ -89,7 +91,8 @@ impl<W: Write + Drop> Sink for StdOut<W> {
         Err(SinkFault)
     }
 
-    ghost counted = { λ s. counts_told (told_bytes W.contents s) };
+    ghost counted = { λ s. elim (told_bytes W.contents s) as (λ told. IsCounted told
+        (number_told told)) [ None ↦ tt | Some bytes ↦ refl ] };
 }
 
 /// Writes all of the bytes, and returns false if a write fails or writes nothing.

@@ -1,5 +1,5 @@
 -- The result of a call from C, and the text that it leaves in the caller's buffer.
-use Rattle.std.specs.Prelude.{◌≡◌, ◌≤◌, ◌<◌, ◌⊎◌, ◌++◌, ℕ, List, [], Some, drop, length, take}
+use Rattle.std.specs.Prelude.{◌≡◌, ◌≢◌, zero, suc, ◌≤◌, ◌<◌, ◌⊎◌, ◌++◌, ℕ, List, [], Some, drop, length, take}
 use Rattle.calc_app.specs.Top.{IsFrontOf, IsOutcome, RunsLines}
 use Rattle.calc_base.specs.Sink.{IsPrefix}
 use Rattle.calc_base.specs.Source.{SourceSeen}
@@ -21,9 +21,9 @@ pub record IsTextOfFirst (words : List (List ℕ)) (input text : List ℕ) : Typ
   pub ending : Ending
   pub outcome : IsOutcome words front text ending
 
--- The text that a call leaves, by its status. `SinkFault`, if memory ran out while the text was stored: a prefix of the text of an outcome over the
--- first lines of the input. `NoMemory`, if memory ran out in the computation: no text or, in a batch, the text of an outcome over the first lines
--- of the input. `SourceFault`: impossible. Any other status: the whole text of an outcome of the words over the input.
+-- The text that a call leaves, by its status. `SinkFault`, if memory ran out while the text was stored: a prefix, which is not empty, of the text of
+-- an outcome over the first lines of the input. `NoMemory`, if memory ran out before any of the text was stored: no text or, in a batch, the text of
+-- an outcome over the first lines of the input. `SourceFault`: impossible. Any other status: the whole text of an outcome of the words over the input.
 abbrev pub IsLeft : (words : List (List ℕ)) → (input text : List ℕ) → Status → Type 0
 IsLeft words input text Done = IsOutcome words input text done
 IsLeft words input text SomeRefused = RunsLines words × IsOutcome words input text some_refused
@@ -31,9 +31,14 @@ IsLeft words input text Syntax = IsOutcome words input text syntax
 IsLeft words input text Range = IsOutcome words input text range
 IsLeft words input text Past = IsOutcome words input text past
 IsLeft words input text SinkFault =
-    (whole : List ℕ) × IsPrefix text whole × IsTextOfFirst words input whole
+    (text ≢ []) × ((whole : List ℕ) × IsPrefix text whole × IsTextOfFirst words input whole)
 IsLeft words input text SourceFault = ⊥
 IsLeft words input text NoMemory = (text ≡ []) ⊎ (RunsLines words × IsTextOfFirst words input text)
+
+-- the status of a call that leaves a text of this length: out of memory for the text is out of memory if none of it was stored
+abbrev pub status_left : Status → ℕ → Status
+status_left SinkFault zero = NoMemory
+status_left status length = status
 
 -- A call has produced a text (`IsLeft`), and `needed` is the length of this text. If the buffer has room for the text, it is at the front of the
 -- buffer, and the bytes after it are unchanged; if not, all bytes of the buffer are unchanged.

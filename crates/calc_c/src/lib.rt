@@ -5,8 +5,9 @@
 //!
 //! `calc_run`, the call of the C library, runs the words of a line and writes to the caller's
 //! buffer. `leaves`: with the codes 0 to 4 the text is the whole text of an outcome of the words
-//! (`IsOutcome`); with the code 5 the text is a prefix of the text of an outcome; with the code 7
-//! the text is empty or, in a batch, the text of an outcome over the first lines of the input.
+//! (`IsOutcome`); with the code 5 the text is a prefix, not empty, of the text of an outcome; with
+//! the code 7 the text is empty or, in a batch, the text of an outcome over the first lines of the
+//! input.
 //! `needed` is the length of the text. If the buffer has room for the text, the buffer begins with
 //! the text, and its other bytes are unchanged; if not, all its bytes are unchanged. `headline`,
 //! `lines` and `answers`: the clauses of `run` with these names, for the bytes in the buffer.
@@ -18,7 +19,7 @@ ghost use Rattle.std.specs.Prelude.{string_bytes};
 ghost use Rattle.calc_app.specs.Top.{AnswersWords, IsThrough, PrintsAnswerTo, PrintsLines};
 ghost use Rattle.calc_app.specs.Top.{RunsLines};
 ghost use Rattle.calc_base.specs.Status.{IsCodeOf, code_of};
-ghost use Rattle.calc_c.specs.Calls.{LeavesText, StandsIn};
+ghost use Rattle.calc_c.specs.Calls.{LeavesText, StandsIn, status_left};
 ghost use Rattle.calc_words.specs.LineBytes.{seen};
 ghost use Rattle.sym_model.specs.BatchLine.{words_of_line};
 
@@ -36,9 +37,9 @@ use std::alloc::Global;
 /// The words are separated by spaces and tabs. `needed` is set to the length of the text. If the
 /// buffer has room for the text, the text is at its front, and the bytes after it are unchanged. If
 /// not, the buffer is unchanged, and the call can be made again with more room. Code 5 says that
-/// memory ran out for the text; then a prefix of the text is left. Code 7 says that memory ran out
-/// in the computation; then no text is left or, in a batch, the text for the first lines of the
-/// input. The other codes are those of the outcome of the words; 6 is never returned.
+/// memory ran out for the text; then a prefix of the text is left, at least one byte. Code 7 says
+/// that memory ran out before that; then no text is left or, in a batch, the text for the first
+/// lines of the input. The other codes are those of the outcome of the words; 6 is never returned.
 #[unsafe(no_mangle)]
 pub extern "C" fn calc_run(
     alloc: Global,
@@ -57,9 +58,9 @@ pub extern "C" fn calc_run(
         → PrintsLines [] (Some input.now) (Some (take needed.new out.new)) }
 
     // By cases on the status, the text that is left is: the whole text of an outcome of the words
-    // (`IsOutcome`); if memory ran out for the text, a prefix of the text of an outcome; if memory
-    // ran out in the computation, no text or, in a batch, the text of an outcome over the first
-    // lines of the input. `needed` is the length of the text. If the buffer has room for the text,
+    // (`IsOutcome`); if memory ran out for the text, a prefix of the text of an outcome, which is
+    // not empty; if memory ran out before that, no text or, in a batch, the text of an outcome over
+    // the first lines of the input. `needed` is the length of the text. If the buffer has room for the text,
     // it begins with the text, and its other bytes are unchanged.
     ensures leaves { IsCodeOf (LeavesText
         (map seen (words_of_line line.now)) input.now needed.new out.old out.new) result }
@@ -111,7 +112,18 @@ fn run_words(
     let mut sink = GrowingSink::new(alloc);
     let status = run(alloc, words, &mut source, &mut sink);
     *needed = put_front(out, sink.bytes());
-    status
+    told(status, *needed)
+}
+
+/// The status of a call that leaves a text of the given length. Out of memory for the text
+/// (`SinkFault`) is out of memory if none of it was stored.
+fn told(status: Status, length: usize) -> Status
+    ensures { result ≡ status_left status length }
+{
+    match status {
+        Status::SinkFault if length == 0 => Status::NoMemory,
+        _ => status,
+    }
 }
 
 /// Copies the text to the front of the buffer if it fits there, and returns the length of the text.

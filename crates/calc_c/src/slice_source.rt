@@ -1,6 +1,5 @@
 //! A source of bytes (`Source`) that reads the bytes of the caller's input.
 ghost use Rattle.std.specs.Prelude.{◌≡◌, ◌<◌, Some, length, min, IfOk, OnErr};
-ghost use Rattle.std.specs.Io.KnownBytes.{Keeps};
 ghost use Rattle.calc_base.specs.Fault.{CountsFaults};
 ghost use Rattle.calc_base.specs.Source.{Takes, Spends};
 ghost use Rattle.calc_c.specs.Calls.{slice_seen};
@@ -21,7 +20,7 @@ impl Source for SliceSource<'_> {
 
         // The clauses that the trait `Source` asks for.
         ensures ok { IfOk result (Takes (Some self.old.rest.now) (Some self.new.rest.now) buf.new) }
-        ensures err { OnErr result (Keeps (Some self.old.rest.now) (Some self.new.rest.now)) }
+        ensures err { OnErr result (Some self.new.rest.now ≡ Some self.old.rest.now) }
         ensures spends { Spends (length self.old.rest.now) (length self.new.rest.now) result }
         ensures counts { CountsFaults 0 0 result }
 

@@ -1,4 +1,5 @@
-//! The outcome of the words of a command, which is computed before anything is written.
+//! The outcome of the words of a command. It is computed before anything is written, except for the
+//! tableaux of `tab`, each of which is written when it is found.
 ghost use Rattle.std.specs.Prelude.{◌≡◌, ℕ, Some, map, string_bytes};
 ghost use Rattle.sym_model.specs.Command.{Command as PlainCommand};
 ghost use Rattle.sym_model.specs.CommandOffence.{Offence};

@@ -17,7 +17,7 @@ use Rattle.word_laws.proofs.FirstOffences.{first_none}
 use Rattle.calc_words.specs.WrittenLimits.{IsWritten, KeepsLimits, IsInList, IsRowLimit, AreWrittenFactors}
 use Rattle.calc_words.proofs.WrittenLetters.{letters_within, written_letters}
 use Rattle.calc_words.proofs.WordJudging.{written_word}
-use Rattle.calc_words.proofs.WrittenExpressions.{no_signs}
+use Rattle.calc_words.proofs.WrittenExpressions.{no_signs, some_denominators}
 use Rattle.calc_words.proofs.WrittenLists.{written, two_written, row_number}
 use Rattle.word_laws.proofs.NoOffences.{none_append, none_first, none_judged, not_past, none_in_word, within_limit, within_degree}
 use Rattle.sym_model.proofs.Lists.{none_chosen}
@@ -92,11 +92,11 @@ tab_keeps (name, (outer, (slash, (inner, after)))) h =
     (w.0, w.1, last_kept k (partition outer) (partition inner) after (ap first_offence (sym (none_judged lists last q.0)) ∙ q.1))
 
 expand_keeps : (bases : List Basis) → Keeps (expand_entry bases)
-expand_keeps bases (name, (form, (basis, phrase))) h = search (rules, within_degree)
+expand_keeps bases (name, (form, (basis, phrase))) h = search (rules, within_degree, some_denominators)
 
 plethysm_keeps : (bases : List Basis) → Keeps (plethysm_entry bases)
 plethysm_keeps bases (name, (basis, (outer, inner))) h =
-    search (rules, none_first, none_append, none_in_word, first_none, none_judged, within_degree, within_limit, not_past, no_signs)
+    search (rules, none_first, none_append, none_in_word, first_none, none_judged, within_degree, within_limit, not_past, no_signs, some_denominators)
 
 schubert_keeps : Keeps schubert_entry
 schubert_keeps (name, (t, ts)) h = written_letters 1 (numbers (t ∷ ts)) (omega arith) h

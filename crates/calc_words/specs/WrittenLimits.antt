@@ -1,10 +1,10 @@
 -- The limits that hold for the values of a command whose words have no error.
-use Rattle.std.specs.Prelude.{◌≡◌, ◌≤◌, ℕ, ◌*◌, true, List, length, Option, Some, None}
+use Rattle.std.specs.Prelude.{◌≡◌, ◌<◌, ◌≤◌, ℕ, ◌*◌, true, List, length, Option, Some, None}
 use Rattle.sym_model.specs.Partition.{IsPartition, size, rows}
 use Rattle.sym_model.specs.GoodTableau.{is_among, lattice_readings}
 use Rattle.sym_model.specs.Permutation.{IsKept}
 use Rattle.sym_model.specs.Sum.{Among}
-use Rattle.sym_model.specs.Expression.{degree}
+use Rattle.sym_model.specs.Expression.{degree, denominator}
 use Rattle.sym_model.specs.ExpressionOffence.{degree_limit, plethysm_degree_limit}
 use Rattle.sym_model.specs.Form.{EachOf}
 use Rattle.plethysm_laws.specs.PositiveExpression.{HasNoSigns}
@@ -56,7 +56,7 @@ pub record AreWrittenFactors (factors : List (List ℕ)) : Type 0 where
   pub few : length factors ≤ most_factors
   pub written : EachOf IsWritten factors
 
--- the values of the command are within the limits for commands that are given by words
+-- the values of the command are within the limits for commands that are given by words, and no fraction has the denominator 0
 abbrev pub KeepsLimits : Command → Type 0
 KeepsLimits (mult limit one_line factors) = IsRowLimit limit × AreWrittenFactors factors
 KeepsLimits (skew limit one_line outer inner) = IsRowLimit limit × IsWritten outer × IsWritten inner
@@ -69,12 +69,13 @@ KeepsLimits (fusion limit level factors) =
     IsRowNumber limit × IsRowNumber level × AreWrittenFactors factors
 KeepsLimits (schubert w) = IsWrittenPermutation w
 KeepsLimits (schubmult left right) = IsWrittenPermutation left × IsWrittenPermutation right
-KeepsLimits (expand target one_line e) = degree e ≤ degree_limit target
+KeepsLimits (expand target one_line e) = (degree e ≤ degree_limit target) × (0 < denominator e)
 KeepsLimits (rsk word) = IsWrittenWord word
 KeepsLimits (growth w) = IsWrittenPermutation w
 KeepsLimits (plethysm target outer inner) =
     (degree outer ≤ plethysm_degree_limit) × (degree inner ≤ plethysm_degree_limit)
     × (degree outer * degree inner ≤ plethysm_degree_limit) × HasNoSigns inner
+    × (0 < denominator outer)
 KeepsLimits (dschubmult left right) =
     IsPermutationWithin most_doubled left × IsPermutationWithin most_doubled right
 KeepsLimits (stanley variables w) = IsRowNumber variables × IsWrittenPermutation w

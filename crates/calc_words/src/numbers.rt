@@ -4,8 +4,7 @@ ghost use Rattle.sym_model.specs.PrintedBlock.{decimal_value};
 ghost use Rattle.sym_model.specs.Form.{is_number_word, is_digit};
 ghost use Rattle.calc_words.specs.NumberRuns.{narrow};
 
-/// 2^127, which is 1 more than the greatest value that is read.
-const WIDE: u128 = 1 << 127;
+use calc_base::LIMIT;
 
 /// Whether the byte is an ASCII digit.
 pub(crate) fn is_digit_byte(byte: u8) -> bool
@@ -35,7 +34,7 @@ pub fn value_of(word: &[u8]) -> Option<u128>
         value = value
             .saturating_mul(10)
             .saturating_add(u128::from(byte.saturating_sub(b'0')))
-            .min(WIDE);
+            .min(LIMIT);
     }
-    (value < WIDE).then_some(value)
+    (value < LIMIT).then_some(value)
 }

@@ -3,7 +3,7 @@ use Rattle.std.proofs.Common.{◌≡◌, ℕ, ◌%◌, ◌^◌, ◌≤◌, Bool,
 use Rattle.std.proofs.lemmas.Int.{ints}
 use Rattle.std.specs.Prelude.{Option, Some, None, Result, MatchOption, MatchResult, nat_abs}
 use Rattle.std.specs.Option.{ok_or}
-use Rattle.coeff_rings.specs.Checked.{checked_i128, where_fits}
+use Rattle.fraction_laws.specs.Checked.{checked_i128, where_fits}
 use Rattle.coeff_rings.proofs.Sizes.{refused_size}
 use Rattle.sym_model.specs.Canonical.{fits_128_bits}
 use Rattle.sym_model.specs.PlaceOrders.{minus_one_to}

@@ -8,11 +8,11 @@ use Rattle.std.proofs.lemmas.Nat.Gcd.{IsGcd-swap}
 use native.Mathlib.Nat.{dvd_trans, dvd-mul_left, dvd-mul_right, dvd-mul_left_of_dvd, div-mul_cancel, mul_comm}
 use Rattle.sym_model.specs.Expansion.{Fraction}
 use Rattle.sym_model.proofs.Ring.{ring, negation-product}
-use Rattle.coeff_rings.specs.Fractions.{InLowestTerms, greatest_common_divisor}
-use Rattle.coeff_rings.specs.Checked.{numerator_over_common, common_denominator}
-use Rattle.coeff_rings.specs.Proved.Divisors.{divides_other_factor, coprime_from, coprime_without, divisor_positive, IsGcd-greatest}
-use Rattle.coeff_rings.specs.Proved.Fractions.{unsigned_abs-negation}
-use Rattle.coeff_rings.specs.Proved.FractionAnswers.{greatest_common_divisor_comm}
+use Rattle.fraction_laws.specs.Fractions.{InLowestTerms, greatest_common_divisor}
+use Rattle.fraction_laws.specs.Checked.{numerator_over_common, common_denominator}
+use Rattle.fraction_laws.proofs.Divisors.{divides_other_factor, coprime_from, coprime_without, divisor_positive, IsGcd-greatest}
+use Rattle.fraction_laws.proofs.Fractions.{unsigned_abs-negation}
+use Rattle.fraction_laws.proofs.FractionAnswers.{greatest_common_divisor_comm}
 
 -- ---- common divisors of three numbers, of which one is the sum or the difference of the other two
 

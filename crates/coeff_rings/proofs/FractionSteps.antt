@@ -5,13 +5,13 @@ use Rattle.std.specs.Int.{w128, IsGcd}
 use native.Mathlib.Nat.{dvd_refl, div_self, mul-one}
 use Rattle.sym_model.proofs.Ring.{product-one}
 use Rattle.sym_model.specs.Expansion.{Fraction}
-use Rattle.coeff_rings.specs.Fractions.{greatest_common_divisor, lowest_terms, fraction_sum, fraction_difference}
-use Rattle.coeff_rings.specs.Checked.{where_fits, IsFraction, CommonFits, fits_fraction, checked_fraction, numerator_over_common, common_denominator, four_numbers_fit, checked_fraction_sum, checked_fraction_difference}
-use Rattle.coeff_rings.specs.Answers.{AnswersSum, AnswersDifference}
-use Rattle.coeff_rings.specs.Proved.Divisors.{greatest_common_divisor-is}
-use Rattle.coeff_rings.specs.Proved.Fractions.{Stands-same, Stands-itself, Stands-lowest_terms}
-use Rattle.coeff_rings.specs.Proved.Whole.{where_fits-true}
-use Rattle.coeff_rings.specs.Proved.FractionAnswers.{IsFraction-lowest_terms, held-fits_fraction, common_positive, sum_over_common, difference_over_common, FourNumbersFit, four_numbers_fit-true, FourNumbersFit-from, greatest_common_divisor_comm, sum_answers_fraction, difference_answers_fraction}
+use Rattle.fraction_laws.specs.Fractions.{greatest_common_divisor, lowest_terms, fraction_sum, fraction_difference}
+use Rattle.fraction_laws.specs.Checked.{where_fits, IsFraction, CommonFits, fits_fraction, checked_fraction, numerator_over_common, common_denominator, four_numbers_fit, checked_fraction_sum, checked_fraction_difference}
+use Rattle.fraction_laws.specs.Answers.{AnswersSum, AnswersDifference}
+use Rattle.fraction_laws.proofs.Divisors.{greatest_common_divisor-is}
+use Rattle.fraction_laws.proofs.Fractions.{Stands-same, Stands-itself, Stands-lowest_terms}
+use Rattle.fraction_laws.proofs.Whole.{where_fits-true}
+use Rattle.fraction_laws.proofs.FractionAnswers.{IsFraction-lowest_terms, held-fits_fraction, common_positive, sum_over_common, difference_over_common, FourNumbersFit, four_numbers_fit-true, FourNumbersFit-from, greatest_common_divisor_comm, sum_answers_fraction, difference_answers_fraction}
 
 pub sum_answers_fraction-from : (a b : Fraction) (answer : Option Fraction) → IsFraction a → IsFraction b → answer ≡ checked_fraction_sum a b → AnswersSum (λ r. r) a b answer
 sum_answers_fraction-from a b answer h k e = subst (AnswersSum (λ r. r) a b) (sym e) (sum_answers_fraction a b h k)

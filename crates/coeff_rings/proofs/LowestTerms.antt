@@ -7,10 +7,10 @@ use Rattle.std.specs.Ordering.{int_eq}
 use Rattle.std.proofs.lemmas.Int.{ints}
 use Rattle.std.proofs.lemmas.Bool.{false_from_ne_true}
 use Rattle.std.proofs.lemmas.Bool.Decides.{Decides-int_eq}
-use Rattle.coeff_rings.specs.Fractions.{whole, lowest_terms}
-use Rattle.coeff_rings.specs.Checked.{fits_fraction, checked_fraction, checked_fraction_quotient, checked_fraction_of}
-use Rattle.coeff_rings.specs.Proved.FractionAnswers.{IsFraction-lowest_terms, held-fits_fraction}
-use Rattle.coeff_rings.specs.Proved.Whole.{where_fits-true}
+use Rattle.fraction_laws.specs.Fractions.{whole, lowest_terms}
+use Rattle.fraction_laws.specs.Checked.{fits_fraction, checked_fraction, checked_fraction_quotient, checked_fraction_of}
+use Rattle.fraction_laws.proofs.FractionAnswers.{IsFraction-lowest_terms, held-fits_fraction}
+use Rattle.fraction_laws.proofs.Whole.{where_fits-true}
 
 pub checked-quotient : (n : ℤ) (d : ℕ) → FitsSigned w128 n → 0 < d → d < 2 ^ 127 → checked_fraction_of n (pos d) ≡ Some (lowest_terms n d)
 checked-quotient n d f h l =

@@ -11,15 +11,15 @@ use Rattle.std.specs.Prelude.{nat_abs}
 use native.Mathlib.Nat.{dvd_trans, dvd-mul_right, zero-div, mul-one, one-mul, mul-pos, div-mul_cancel}
 use Rattle.sym_model.proofs.Ring.{negation-product}
 use Rattle.sym_model.specs.Expansion.{Fraction}
-use Rattle.coeff_rings.specs.Fractions.{whole, InLowestTerms, greatest_common_divisor, lowest_terms, fraction_product, fraction_quotient, turned_over, reciprocal}
+use Rattle.fraction_laws.specs.Fractions.{whole, InLowestTerms, greatest_common_divisor, lowest_terms, fraction_product, fraction_quotient, turned_over, reciprocal}
 use Rattle.coeff_rings.specs.Signs.{signed, signs_differ}
 use Rattle.sym_model.specs.Canonical.{fits_128_bits}
-use Rattle.coeff_rings.specs.Checked.{where_fits, checked_i128, checked_fraction, IsFraction, checked_fraction_of, checked_fraction_quotient, checked_fraction_product}
-use Rattle.coeff_rings.specs.Proved.Divisors.{coprime_from, greatest_common_divisor-is, coprime-products, coprime_without, quotient_positive, divisor_positive}
-use Rattle.coeff_rings.specs.Proved.Fractions.{Stands-same, Stands-itself, Stands-lowest_terms, InLowestTerms-whole}
-use Rattle.coeff_rings.specs.Proved.FractionLaws.{num-zero, reciprocal-lowest}
-use Rattle.coeff_rings.specs.Proved.Whole.{fits_from_test, where_fits-true}
-use Rattle.coeff_rings.specs.Proved.FractionAnswers.{checked_fraction-held}
+use Rattle.fraction_laws.specs.Checked.{where_fits, checked_i128, checked_fraction, IsFraction, checked_fraction_of, checked_fraction_quotient, checked_fraction_product}
+use Rattle.fraction_laws.proofs.Divisors.{coprime_from, greatest_common_divisor-is, coprime-products, coprime_without, quotient_positive, divisor_positive}
+use Rattle.fraction_laws.proofs.Fractions.{Stands-same, Stands-itself, Stands-lowest_terms, InLowestTerms-whole}
+use Rattle.fraction_laws.proofs.FractionLaws.{num-zero, reciprocal-lowest}
+use Rattle.fraction_laws.proofs.Whole.{fits_from_test, where_fits-true}
+use Rattle.fraction_laws.proofs.FractionAnswers.{checked_fraction-held}
 
 -- ---- integers as a sign and an absolute value
 

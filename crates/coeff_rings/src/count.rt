@@ -1,12 +1,12 @@
 //! Natural numbers below 2^128 as coefficients, with checked operations.
 ghost use Rattle.std.specs.Prelude.{refl, ◌≡◌, ℕ, ◌+◌, ◌*◌, ◌^◌, ◌<◌, pos};
 ghost use Rattle.std.proofs.Common.{sym};
-ghost use Rattle.coeff_rings.specs.Fractions.{whole_count};
-ghost use Rattle.coeff_rings.specs.Checked.{checked_u128};
-ghost use Rattle.coeff_rings.specs.Proved.Fractions.{InLowestTerms-whole};
-ghost use Rattle.coeff_rings.specs.Proved.Whole.{sum-whole, count_fitted, zero_fits_u128};
-ghost use Rattle.coeff_rings.specs.Proved.Whole.{one_fits_u128, same_count, checked_u128-held};
-ghost use Rattle.coeff_rings.specs.Proved.Whole.{sum_answers_u128, sum_laws_u128};
+ghost use Rattle.fraction_laws.specs.Fractions.{whole_count};
+ghost use Rattle.fraction_laws.specs.Checked.{checked_u128};
+ghost use Rattle.fraction_laws.proofs.Fractions.{InLowestTerms-whole};
+ghost use Rattle.fraction_laws.proofs.Whole.{sum-whole, count_fitted, zero_fits_u128};
+ghost use Rattle.fraction_laws.proofs.Whole.{one_fits_u128, same_count, checked_u128-held};
+ghost use Rattle.fraction_laws.proofs.Whole.{sum_answers_u128, sum_laws_u128};
 
 use crate::digits::Digits;
 use crate::scalar::Scalar;

@@ -3,10 +3,7 @@ ghost use Rattle.std.specs.Prelude.{◌≡◌, ◌/◌, ◌*◌, ◌<◌, ◌≤
 ghost use Rattle.sym_model.specs.Expression.{lcm};
 
 use crate::divisors::gcd;
-use calc_base::Large;
-
-/// The limit 2^127: every denominator is less.
-const LIMIT: u128 = 1 << 127;
+use calc_base::{LIMIT, Large};
 
 /// The least common multiple of two denominators, and its quotients by these denominators.
 #[derive(Clone, Copy)]

@@ -3,28 +3,28 @@ ghost use Rattle.std.specs.Prelude.{refl, ◌≡◌, ℕ, ℤ, pos, neg_ℤ, ◌
 ghost use Rattle.std.specs.Prelude.{unsigned_abs, FitsSigned, SomeIff, IfSome};
 ghost use Rattle.std.specs.Int.{w128, IsGcd, ◌∣◌};
 ghost use Rattle.sym_model.specs.Expansion.{Fraction};
-ghost use Rattle.coeff_rings.specs.Fractions.{whole, lowest_terms, greatest_common_divisor};
-ghost use Rattle.coeff_rings.specs.Fractions.{fraction_sum, fraction_product};
+ghost use Rattle.fraction_laws.specs.Fractions.{whole, lowest_terms, greatest_common_divisor};
+ghost use Rattle.fraction_laws.specs.Fractions.{fraction_sum, fraction_product};
 ghost use Rattle.coeff_rings.specs.Signs.{signed, signs_differ};
-ghost use Rattle.coeff_rings.specs.Checked.{IsFraction, CommonFits, checked_i128, checked_fraction};
-ghost use Rattle.coeff_rings.specs.Checked.{checked_fraction_of, numerator_over_common};
-ghost use Rattle.coeff_rings.specs.Checked.{common_denominator, checked_fraction_sum};
-ghost use Rattle.coeff_rings.specs.Checked.{checked_fraction_difference, checked_fraction_product};
-ghost use Rattle.coeff_rings.specs.Checked.{checked_fraction_quotient, checked_fraction_negation};
-ghost use Rattle.coeff_rings.specs.Proved.FractionAnswers.{fitted_sum, fitted_product};
-ghost use Rattle.coeff_rings.specs.Proved.FractionAnswers.{zero_is_fraction, one_is_fraction};
-ghost use Rattle.coeff_rings.specs.Proved.FractionAnswers.{sum_answers_fraction, sum_held_fraction};
-ghost use Rattle.coeff_rings.specs.Proved.FractionAnswers.{sum_laws_fraction};
-ghost use Rattle.coeff_rings.specs.Proved.FractionAnswers.{negation_answers_fraction};
-ghost use Rattle.coeff_rings.specs.Proved.FractionAnswers.{negation_held_fraction};
-ghost use Rattle.coeff_rings.specs.Proved.FractionAnswers.{difference_answers_fraction};
-ghost use Rattle.coeff_rings.specs.Proved.FractionAnswers.{difference_held_fraction};
-ghost use Rattle.coeff_rings.specs.Proved.FractionAnswers.{product_answers_fraction};
-ghost use Rattle.coeff_rings.specs.Proved.FractionAnswers.{product_held_fraction};
-ghost use Rattle.coeff_rings.specs.Proved.FractionAnswers.{ring_laws_fraction};
-ghost use Rattle.coeff_rings.specs.Proved.FractionAnswers.{quotient_answers_fraction};
-ghost use Rattle.coeff_rings.specs.Proved.FractionAnswers.{quotient_held_fraction};
-ghost use Rattle.coeff_rings.specs.Proved.FractionAnswers.{field_laws_fraction};
+ghost use Rattle.fraction_laws.specs.Checked.{IsFraction, CommonFits, checked_i128, checked_fraction};
+ghost use Rattle.fraction_laws.specs.Checked.{checked_fraction_of, numerator_over_common};
+ghost use Rattle.fraction_laws.specs.Checked.{common_denominator, checked_fraction_sum};
+ghost use Rattle.fraction_laws.specs.Checked.{checked_fraction_difference, checked_fraction_product};
+ghost use Rattle.fraction_laws.specs.Checked.{checked_fraction_quotient, checked_fraction_negation};
+ghost use Rattle.fraction_laws.proofs.FractionAnswers.{fitted_sum, fitted_product};
+ghost use Rattle.fraction_laws.proofs.FractionAnswers.{zero_is_fraction, one_is_fraction};
+ghost use Rattle.fraction_laws.proofs.FractionAnswers.{sum_answers_fraction, sum_held_fraction};
+ghost use Rattle.fraction_laws.proofs.FractionAnswers.{sum_laws_fraction};
+ghost use Rattle.fraction_laws.proofs.FractionAnswers.{negation_answers_fraction};
+ghost use Rattle.fraction_laws.proofs.FractionAnswers.{negation_held_fraction};
+ghost use Rattle.fraction_laws.proofs.FractionAnswers.{difference_answers_fraction};
+ghost use Rattle.fraction_laws.proofs.FractionAnswers.{difference_held_fraction};
+ghost use Rattle.fraction_laws.proofs.FractionAnswers.{product_answers_fraction};
+ghost use Rattle.fraction_laws.proofs.FractionAnswers.{product_held_fraction};
+ghost use Rattle.fraction_laws.proofs.FractionAnswers.{ring_laws_fraction};
+ghost use Rattle.fraction_laws.proofs.FractionAnswers.{quotient_answers_fraction};
+ghost use Rattle.fraction_laws.proofs.FractionAnswers.{quotient_held_fraction};
+ghost use Rattle.fraction_laws.proofs.FractionAnswers.{field_laws_fraction};
 
 use crate::digits::Digits;
 use crate::scalar::{Field, Ring, Scalar};
@@ -41,7 +41,7 @@ pub struct Frac {
 
 impl Model for Frac {
     ghost use Rattle.sym_model.specs.Expansion.{Fraction};
-    ghost use Rattle.coeff_rings.specs.Checked.{IsFraction};
+    ghost use Rattle.fraction_laws.specs.Checked.{IsFraction};
 
     ghost Value = { Fraction };
 

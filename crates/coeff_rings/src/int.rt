@@ -2,15 +2,15 @@
 ghost use Rattle.std.specs.Prelude.{refl, ◌≡◌, ℤ, pos, ◌+ℤ◌, ◌-ℤ◌, ◌*ℤ◌, neg_ℤ, FitsSigned};
 ghost use Rattle.std.specs.Int.{w128};
 ghost use Rattle.std.proofs.Common.{sym};
-ghost use Rattle.coeff_rings.specs.Fractions.{whole};
-ghost use Rattle.coeff_rings.specs.Checked.{checked_i128};
-ghost use Rattle.coeff_rings.specs.Proved.Fractions.{InLowestTerms-whole};
-ghost use Rattle.coeff_rings.specs.Proved.Whole.{sum-whole, product-whole, whole_fitted};
-ghost use Rattle.coeff_rings.specs.Proved.Whole.{zero_fits_128_bits, one_fits_128_bits, same_whole};
-ghost use Rattle.coeff_rings.specs.Proved.Whole.{checked_i128-held, sum_answers_i128};
-ghost use Rattle.coeff_rings.specs.Proved.Whole.{sum_laws_i128, negation_answers_i128};
-ghost use Rattle.coeff_rings.specs.Proved.Whole.{difference_answers_i128, product_answers_i128};
-ghost use Rattle.coeff_rings.specs.Proved.Whole.{ring_laws_i128};
+ghost use Rattle.fraction_laws.specs.Fractions.{whole};
+ghost use Rattle.fraction_laws.specs.Checked.{checked_i128};
+ghost use Rattle.fraction_laws.proofs.Fractions.{InLowestTerms-whole};
+ghost use Rattle.fraction_laws.proofs.Whole.{sum-whole, product-whole, whole_fitted};
+ghost use Rattle.fraction_laws.proofs.Whole.{zero_fits_128_bits, one_fits_128_bits, same_whole};
+ghost use Rattle.fraction_laws.proofs.Whole.{checked_i128-held, sum_answers_i128};
+ghost use Rattle.fraction_laws.proofs.Whole.{sum_laws_i128, negation_answers_i128};
+ghost use Rattle.fraction_laws.proofs.Whole.{difference_answers_i128, product_answers_i128};
+ghost use Rattle.fraction_laws.proofs.Whole.{ring_laws_i128};
 
 use crate::digits::Digits;
 use crate::scalar::{Ring, Scalar};

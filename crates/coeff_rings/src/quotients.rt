@@ -1,6 +1,6 @@
 //! Quotients of two integers as fractions.
 ghost use Rattle.std.specs.Prelude.{◌≡◌, ◌<◌, ◌^◌};
-ghost use Rattle.coeff_rings.specs.Fractions.{lowest_terms};
+ghost use Rattle.fraction_laws.specs.Fractions.{lowest_terms};
 
 use crate::frac::Frac;
 use crate::int::Int;

@@ -9,10 +9,10 @@
 //! and of its result.
 ghost use Rattle.std.specs.Prelude.{◌≡◌, ◌≢◌, ◌↔◌, ℕ, ℤ, pos, List, Option, Some, IsTrue, IfSome};
 ghost use Rattle.sym_model.specs.Expansion.{Fraction};
-ghost use Rattle.coeff_rings.specs.Fractions.{whole, InLowestTerms, fraction_sum, fraction_product};
-ghost use Rattle.coeff_rings.specs.Answers.{AnswersSum, AnswersDifference, AnswersProduct};
-ghost use Rattle.coeff_rings.specs.Answers.{AnswersNegation, AnswersQuotient};
-ghost use Rattle.coeff_rings.specs.Laws.{SumLaws, RingLaws, FieldLaws};
+ghost use Rattle.fraction_laws.specs.Fractions.{whole, InLowestTerms, fraction_sum, fraction_product};
+ghost use Rattle.fraction_laws.specs.Answers.{AnswersSum, AnswersDifference, AnswersProduct};
+ghost use Rattle.fraction_laws.specs.Answers.{AnswersNegation, AnswersQuotient};
+ghost use Rattle.fraction_laws.specs.Laws.{SumLaws, RingLaws, FieldLaws};
 ghost use Rattle.coeff_rings.specs.Text.{decimal_text};
 
 use crate::digits::Digits;

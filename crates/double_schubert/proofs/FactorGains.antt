@@ -4,7 +4,7 @@ use Rattle.std.specs.Prelude.{nat_abs, neg_ℤ, ◌&&◌}
 use Rattle.std.specs.Cmp.{IsEquivalence}
 use Rattle.std.specs.Cmp.Lexicographic.{nat_list_eq_equiv}
 use Rattle.std.proofs.lemmas.Bool.{and_parts}
-use Rattle.coeff_rings.specs.Fractions.{whole}
+use Rattle.fraction_laws.specs.Fractions.{whole}
 use Rattle.sym_model.specs.DividedDifference.{raised}
 use Rattle.sym_model.specs.DoubleSchubert.{difference_in, shifted_in}
 use Rattle.sym_model.specs.LabelLimits.{is_permutation_label, is_monomial_label, is_shifted_label}
@@ -18,14 +18,14 @@ use Rattle.sym_model.proofs.Sums.{total_among, total_ext}
 use Rattle.sym_model.proofs.WholeTerms.{pair_of_combined}
 use Rattle.double_schubert_laws.specs.Factors.{over_factor}
 use Rattle.double_schubert_laws.proofs.ShiftedStep.{shifted_step}
-use Rattle.sparse_polys.specs.Labels.{same_pair}
+use Rattle.linear_combinations.proofs.Labels.{same_pair}
 use Rattle.linear_combinations.specs.Gains.{over, mass, scaled, replaced, HaveLabels, Gains, Overflows}
 use Rattle.linear_combinations.proofs.Gains.{scaled_append, replaced_over, gains_both, overflows_both, overflows_more, overflows_as, overflows_alone, mass_at_append}
 use Rattle.linear_combinations.proofs.Masses.{mass_replaced, labels_replaced, labels_gained}
 use Rattle.linear_combinations.proofs.Totals.{term-among}
-use Rattle.transition_walk.proofs.Labels.{label_one_line}
-use Rattle.double_schubert.specs.Shifts.{ShiftedSum, IsWithin, IsShiftedTable, equal, each_beside, factor_terms, greatest_length}
-use Rattle.double_schubert.specs.FactorLaws.{over_terms, mass_terms, labels_terms}
+use Rattle.schubert_laws.proofs.PermutationLabels.{label_one_line}
+use Rattle.transition_laws.specs.Shifts.{ShiftedSum, IsWithin, IsShiftedTable, equal, each_beside, factor_terms, greatest_length}
+use Rattle.transition_laws.proofs.FactorLaws.{over_terms, mass_terms, labels_terms}
 use Rattle.sym_model.proofs.Integers.{product-neg_one}
 
 pub label_laws : IsEquivalence equal

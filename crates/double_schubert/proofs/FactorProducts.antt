@@ -7,7 +7,7 @@ use Rattle.std.specs.Cmp.Lexicographic.{pointwise, nat_list_eq_equiv}
 use Rattle.std.specs.Prelude.{nat_eq}
 use Rattle.std.proofs.lemmas.Int.{ints}
 use Rattle.std.proofs.Math.Nat.{pow-le-pow_right, pow-zero}
-use Rattle.coeff_rings.specs.Fractions.{whole}
+use Rattle.fraction_laws.specs.Fractions.{whole}
 use Rattle.sym_model.specs.DoubleSchubert.{double_schubert_in, shifted_in}
 use Rattle.sym_model.specs.Partition.{size, without_last_zeros}
 use Rattle.sym_model.specs.PlaceOrders.{inversions}
@@ -20,13 +20,13 @@ use Rattle.double_schubert_laws.proofs.DoubleVariables.{identity_double}
 use Rattle.double_schubert_laws.proofs.ProductSteps.{product_identity, product_start}
 use Rattle.linear_combinations.specs.Entries.{IsCombination}
 use Rattle.linear_combinations.specs.Gains.{over, weighed, HaveLabels, Gains}
-use Rattle.linear_combinations.specs.Labels.{same_partition}
+use Rattle.linear_combinations.proofs.Labels.{same_partition}
 use Rattle.linear_combinations.proofs.Gains.{over_append}
 use Rattle.linear_combinations.proofs.Masses.{labels_gained}
 use Rattle.linear_combinations.proofs.Weighed.{gains_weighed}
 use Rattle.transition_walk.specs.Waiting.{WithList, IsWaiting, AreWaiting, value_of, growth}
-use Rattle.transition_walk.proofs.Labels.{one_one_line}
-use Rattle.double_schubert.specs.Shifts.{ShiftedSum}
+use Rattle.schubert_laws.proofs.PermutationLabels.{one_one_line}
+use Rattle.transition_laws.specs.Shifts.{ShiftedSum}
 use Rattle.double_schubert.specs.ByPermutations.{InY, at_pairs, at_general, one_each}
 use Rattle.double_schubert.specs.LinearFactors.{AreWithin, product_in}
 use Rattle.double_schubert.proofs.LinearProducts.{trailing}

@@ -8,7 +8,7 @@ ghost use Rattle.sym_model.specs.ListWeight.{list_weight};
 ghost use Rattle.sym_model.specs.Polynomial.{times};
 ghost use Rattle.sym_model.specs.WholeTerms.{as_fractions, combined};
 ghost use Rattle.linear_combinations.specs.Gains.{HaveLabels, Gains, Overflows};
-ghost use Rattle.double_schubert.specs.Shifts.{IsWithin, each_beside, equal, greatest_length};
+ghost use Rattle.transition_laws.specs.Shifts.{IsWithin, each_beside, equal, greatest_length};
 
 use calc_base::SumFault;
 use coeff_rings::{Int, Ring};
@@ -31,7 +31,7 @@ pub(crate) struct TimesFactor {
 }
 
 impl Rule<Shifted, Shifted> for TimesFactor {
-    ghost use Rattle.double_schubert.specs.Shifts.{IsFactor, IsWithin, factor_terms};
+    ghost use Rattle.transition_laws.specs.Shifts.{IsFactor, IsWithin, factor_terms};
 
     ghost takes = { λ rule label. IsFactor rule.r rule.c × IsWithin 254 32384 label };
 
@@ -79,7 +79,7 @@ impl Factor<Shifted> for TimesFactor {
     ghost use Rattle.sym_model.specs.Partition.{size};
     ghost use Rattle.sym_model.specs.Permutation.{letter};
     ghost use Rattle.double_schubert_laws.specs.Factors.{acted};
-    ghost use Rattle.double_schubert.specs.FactorLaws.{factor_start, factor_step, factor_grows};
+    ghost use Rattle.transition_laws.proofs.FactorLaws.{factor_start, factor_step, factor_grows};
 
     ghost made = { λ r v. record { r = r; c = letter v r } };
 

@@ -99,9 +99,9 @@ impl Hash for ShortMonomial {
 
 impl Label for ShortMonomial {
     ghost use Rattle.std.specs.Prelude.{true};
-    ghost use Rattle.linear_combinations.specs.Labels.{same_partition};
-    ghost use Rattle.double_schubert.specs.ShortMonomials.{falling_order, falling_order_is_total};
-    ghost use Rattle.double_schubert.specs.ShortMonomials.{falling_order_equal};
+    ghost use Rattle.linear_combinations.proofs.Labels.{same_partition};
+    ghost use Rattle.linear_combinations.proofs.Labels.{falling_lists_total, falling_lists_equal};
+    ghost use Rattle.double_schubert.specs.ShortMonomials.{falling_order};
 
     ghost is_label = { λ e. true };
 
@@ -121,7 +121,7 @@ impl Label for ShortMonomial {
 
     ghost same_label = { same_partition };
 
-    ghost order_total = { falling_order_is_total };
+    ghost order_total = { falling_lists_total };
 
-    ghost order_equal = { falling_order_equal };
+    ghost order_equal = { falling_lists_equal };
 }

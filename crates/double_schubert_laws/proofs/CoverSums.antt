@@ -22,7 +22,7 @@ use Rattle.schubert_laws.proofs.Swaps.{swap_at, length-swap_at, swap_at_sym, onc
 use Rattle.schubert_laws.proofs.PlaceSums.{sum_below}
 use Rattle.schubert_laws.proofs.MonkStep.{is_cover, signed, signed_up, signed_down, signed_same}
 use Rattle.schubert_laws.proofs.MonkFromOne.{swap_is, one_line_swap, longer, longer_split, swap_added, sum_split}
-use Rattle.schubert_laws.proofs.Transition.{IsStep, no_other, swap_there, raises_by_one, rises_chain, strict_get}
+use Rattle.schubert_laws.proofs.Transition.{IsStep, step_nearest, no_other, swap_there, raises_by_one, rises_chain, strict_get}
 
 -- for each permutation w, adding fixed letters to w, up to m letters in all, does not change `val w`
 pub record IsStable (m : ℕ) (val : List ℕ → ℤ) : Type 0 where
@@ -136,4 +136,4 @@ only_up m val w q b st o s n =
         ∙ ap (λ t. at_swap val (longer (swap_at q b w) 0) t (j - 1)) i
         ∙ ap (λ t. cond t (val (swap_at q (j - 1) (longer (swap_at q b w) 0))) (pos 0))
         (ne_eqb (rising_pairs (longer (swap_at q b w) 0)) (suc (rising_pairs (swap_at q (j - 1) (longer (swap_at q b w) 0))))
-        (no_other w q b (j - 1) o s (omega arith) (omega arith) (λ z. d (omega arith))))
+        (no_other w q b (j - 1) o (step_nearest w q b s) (omega arith) (omega arith) (λ z. d (omega arith))))

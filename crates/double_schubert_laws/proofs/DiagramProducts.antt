@@ -4,8 +4,9 @@
 --     row r s c φ           the pairing of φ with x^α times the product of all u - v, for u the variable r and v each of the c variables from s on
 --     diagram s r cs φ      the pairing of φ with x^α times a product of rows. Each entry c of the list cs gives one row of c factors, the first for
 --                           the variable r, the next one for the variable r + 1, and so on
-use Rattle.std.proofs.Common.{◌≡◌, ℕ, zero, suc, ◌+◌, ◌<◌, List, [], ◌∷◌, ◌++◌, length, get_or, replicate, refl, sym, ◌∙◌, ap, ap₂, arith, ℤ, pos, ◌+ℤ◌, ◌-ℤ◌, neg_ℤ, rules}
+use Rattle.std.proofs.Common.{◌≡◌, ℕ, zero, suc, ◌+◌, ◌<◌, List, [], ◌∷◌, ◌++◌, length, get_or, replicate, refl, sym, ◌∙◌, ap, ap₂, arith, ℤ, ◌+ℤ◌, ◌-ℤ◌, neg_ℤ, rules}
 use Rattle.std.proofs.lemmas.Int.{ints}
+use Rattle.schubert_laws.proofs.AtOrigin.{along_zeros}
 use Rattle.schubert_laws.proofs.Differences.{along, along_ext, along_add, along_neg}
 use Rattle.schubert_laws.proofs.Exchanges.{raise}
 use Rattle.schubert_laws.proofs.MonkStep.{jump_first, jump_second}
@@ -24,7 +25,7 @@ diagram s r (c ∷ cs) φ = diagram s (suc r) cs (row r s c φ)
 
 -- ---- the operators of this file commute, and depend only on the values of φ
 
-raise_raise : (r s : ℕ) (α : List ℕ) → raise r (raise s α) ≡ raise s (raise r α)
+pub raise_raise : (r s : ℕ) (α : List ℕ) → raise r (raise s α) ≡ raise s (raise r α)
 raise_raise r s [] = refl
 raise_raise zero zero (a ∷ α) = refl
 raise_raise zero (suc s) (a ∷ α) = refl
@@ -141,7 +142,7 @@ along_either zero φ (a ∷ b ∷ α) =
     omega (arith, ints)
 along_either (suc k) φ (a ∷ α) = along_either k (λ β. φ (a ∷ β)) α
 
-along_two : (k s : ℕ) (φ : List ℕ → ℤ) (α : List ℕ) → Apart k s → along k (less (suc k) s (less k s φ)) α ≡ less (suc k) s (less k s (along k φ)) α
+pub along_two : (k s : ℕ) (φ : List ℕ → ℤ) (α : List ℕ) → Apart k s → along k (less (suc k) s (less k s φ)) α ≡ less (suc k) s (less k s (along k φ)) α
 along_two k s φ α p =
     let b = along_both k φ α in
     let ss = along_raised k s (λ γ. φ (raise s γ)) α p in
@@ -207,14 +208,7 @@ along_diagram s r (suc k) i (a ∷ c) (b ∷ d) φ α u e h =
 
 -- ---- the values at the exponents 0, .., 0 of `along k φ`, the divided difference of φ along k
 
-along_none : (k n : ℕ) (φ : List ℕ → ℤ) → along k φ (replicate n 0) ≡ pos 0
-along_none zero zero φ = refl
-along_none zero (suc zero) φ = refl
-along_none zero (suc (suc n)) φ = refl
-along_none (suc k) zero φ = refl
-along_none (suc k) (suc n) φ = along_none k n (λ β. φ (0 ∷ β))
-
-along_unit : (k n : ℕ) (φ : List ℕ → ℤ) → suc k < n → along k φ (raise k (replicate n 0)) ≡ φ (replicate n 0)
+pub along_unit : (k n : ℕ) (φ : List ℕ → ℤ) → suc k < n → along k φ (raise k (replicate n 0)) ≡ φ (replicate n 0)
 along_unit k zero φ h = absurd (omega arith)
 along_unit zero (suc zero) φ h = absurd (omega arith)
 along_unit zero (suc (suc n)) φ h = omega (arith, ints)
@@ -224,7 +218,7 @@ pub less_along : (k s n : ℕ) (φ : List ℕ → ℤ) → suc k < s → suc k <
 less_along k s n φ h l =
     let a = along_unit k n φ l in
     let b = along_raised k s φ (replicate n 0) (apart_after k s h) in
-    let c = along_none k n (λ γ. φ (raise s γ)) in
+    let c = along_zeros k n (λ γ. φ (raise s γ)) in
     omega (arith, ints)
 
 -- if c has equal entries at the places k and k + 1, counted from 0, and d is c with the first of them increased by 1, the divided difference along k

@@ -208,7 +208,7 @@ kept_in w n o =
     ∙ pair_determined (double_schubert (kept w) (length w)) (double_schubert w (length w)) (both (length w) n φ) (double_kept (length w) w o (omega arith))
     ∙ in_variables (length w) n w φ (omega arith))
 
-diagram_nothing : (s r k : ℕ) (φ : List ℕ → ℤ) (α : List ℕ) → diagram s r (replicate k 0) φ α ≡ φ α
+pub diagram_nothing : (s r k : ℕ) (φ : List ℕ → ℤ) (α : List ℕ) → diagram s r (replicate k 0) φ α ≡ φ α
 diagram_nothing s r zero φ α = refl
 diagram_nothing s r (suc k) φ α = diagram_nothing s (suc r) k φ α
 

@@ -7,3 +7,9 @@ pub mod BothRestrictions
 pub mod DoubleVariables
 pub mod ShiftedStep
 pub mod ProductSteps
+pub mod DoubleDuals
+pub mod IndependentDoubles
+pub mod InverseSteps
+pub mod Inverses
+pub mod Columns
+pub mod ColumnSteps

@@ -1,1 +1,3 @@
 pub mod Factors
+pub mod ShortShifts
+pub mod AtZero

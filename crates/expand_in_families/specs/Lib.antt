@@ -1,4 +1,3 @@
 pub mod SpecialHooks
 pub mod Nodes
 pub mod SchurLists
-pub mod TargetLaws

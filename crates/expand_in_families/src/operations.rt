@@ -2,11 +2,17 @@
 //! as lists of terms in the target basis, which is e, h or p in which it is expanded.
 ghost use Rattle.std.specs.Prelude.{◌≡◌, ◌<◌, ◌≤◌, ◌^◌, ◌*ℤ◌, pos, nat_abs, MatchResult};
 ghost use Rattle.std.specs.Prelude.{IsErrOf};
-ghost use Rattle.sym_model.specs.Expression.{lcm, sum};
+ghost use Rattle.std.specs.Prelude.{◌*◌};
+ghost use Rattle.sym_model.specs.Expansion.{completes};
+ghost use Rattle.sym_model.specs.Expression.{cleared_value, degree, difference, lcm, negation};
+ghost use Rattle.sym_model.specs.Expression.{sum};
+ghost use Rattle.sym_model.specs.Weight.{factorial, growth, numerator};
+ghost use Rattle.monomial_laws.proofs.ExpressionLaws.{difference-value, heavy-more};
+ghost use Rattle.basis_change_laws.proofs.GrowthBounds.{grown-mono};
+ghost use Rattle.basis_change_laws.proofs.JoinedLists.{stands-same};
 ghost use Rattle.sparse_polys.specs.Families.{polynomial_of};
 ghost use Rattle.basis_expand.specs.Values.{AreOperands, IsMadeOf};
 ghost use Rattle.expand_in_families.specs.Nodes.{ClearsTo, IsHeavyInFamilies};
-ghost use Rattle.expand_in_families.specs.TargetLaws.{clears-difference, heavy-whole};
 
 use crate::atoms::atom;
 use crate::factorials::{binomial, rise};
@@ -99,7 +105,15 @@ impl Target for InFamily {
         })
     }
 
-    ghost differs = { λ t. clears-difference (polynomial_of t.family) };
+    ghost differs = { λ t e f c h. record {
+      den_is = h.den_is;
+      degree_is = h.degree_is;
+      stands = stands-same (polynomial_of t.family) (factorial (degree (sum e f)))
+          (numerator (sum e f) * growth completes (degree (sum e f))) (degree (sum e f))
+          (cleared_value (sum e (negation f))) (cleared_value (difference e f)) c.terms
+          (difference-value e f) h.stands;
+    } };
 
-    ghost grows = { λ _. heavy-whole };
+    ghost grows = { λ _ e f h k.
+        heavy-more completes grown-mono e f h.num h.den h.deg k };
 }

@@ -11,10 +11,10 @@ use Rattle.sym_model.specs.Expansion.{Fraction, Terms}
 use Rattle.sym_model.specs.Canonical.{is_printable, is_reduced, is_coefficient, is_ordered}
 use Rattle.sym_model.specs.Canonical.{each_term, fits_128_bits}
 use Rattle.sym_model.specs.WholeTerms.{as_fractions}
-use Rattle.coeff_rings.specs.Fractions.{whole}
-use Rattle.coeff_rings.specs.Checked.{IsFraction, fits_fraction}
-use Rattle.coeff_rings.specs.Proved.FractionAnswers.{held-fits_fraction}
-use Rattle.coeff_rings.specs.Proved.Whole.{test_from_fits}
+use Rattle.fraction_laws.specs.Fractions.{whole}
+use Rattle.fraction_laws.specs.Checked.{IsFraction, fits_fraction}
+use Rattle.fraction_laws.proofs.FractionAnswers.{held-fits_fraction}
+use Rattle.fraction_laws.proofs.Whole.{test_from_fits}
 use Rattle.linear_combinations.specs.Entries.{is_canonical_list}
 use Rattle.sparse_polys.proofs.Tables.{canonical-fractions}
 use Rattle.sparse_polys.proofs.ValueLists.{canonical_values}

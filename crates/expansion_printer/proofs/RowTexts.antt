@@ -1,13 +1,34 @@
 -- The texts of the rows of a filling, entry by entry.
-use Rattle.std.proofs.Common.{◌≡◌, ℕ, zero, suc, ◌+◌, ◌-◌, ◌<◌, arith, List, [], ◌∷◌, ◌++◌, refl, sym, ◌∙◌, ap, map, cond, ◌==◌}
+use Rattle.std.proofs.Common.{◌≡◌, ◌≢◌, ℕ, zero, suc, ◌+◌, ◌-◌, ◌<◌, arith, List, [], ◌∷◌, ◌++◌, refl, sym, ◌∙◌, ap, map, cond, ◌==◌}
 use Rattle.std.specs.Prelude.{codes, decimal}
+use Rattle.std.proofs.lemmas.Bool.{ne_eqb, cond-false}
 use Rattle.std.proofs.lemmas.List.{length-map, map-append}
 use Rattle.std.proofs.lemmas.Simd.{map-map}
+use Rattle.calc_base.specs.Sink.{SinkSeen}
 use Rattle.sym_model.specs.Partition.{after, part, rows}
 use Rattle.sym_model.specs.TableauText.{separated, spaced, row_text, tableau_text}
 use Rattle.sym_model.proofs.AfterLists.{length_after, after-more}
 use Rattle.skew_shapes.specs.Rows.{row_by, rows_by}
+use Rattle.expansion_printer.specs.Gathering.{Waiting, Gathers}
+use Rattle.expansion_printer.proofs.GatheringLaws.{Gathers-then, Gathers-as}
 use Rattle.expansion_printer.proofs.Texts.{separated-push}
+
+-- if a separator was collected and then a text, and k is not 0, then the text of item k of a list, counted from 0, was collected with the separator
+-- that is in front of every item but the first
+pub Gathers-behind : {old mid new : Waiting} {first second third : SinkSeen} {separator text : List ℕ} {k : ℕ} → k ≢ 0
+    → Gathers old first mid second separator → Gathers mid second new third text
+    → Gathers old first new third (cond (k == 0) text (separator ++ text))
+Gathers-behind {separator = separator} {text = text} {k = k} some front back =
+    Gathers-as (sym (cond-false (k == 0) text (separator ++ text) (ne_eqb k 0 some))) (Gathers-then front back)
+
+-- if the text of item k of a list was collected, with the separator that is in front of every item but the first, and k = at, then that of item `at`
+-- was collected
+pub Gathers-piece : {old new : Waiting} {first second : SinkSeen} {k n : ℕ} (separator : List ℕ) (at m : ℕ)
+    → Gathers old first new second (cond (k == 0) (decimal n) (separator ++ decimal n)) → k ≡ at → n ≡ m
+    → Gathers old first new second (cond (at == 0) (decimal m) (separator ++ decimal m))
+Gathers-piece {k = k} {n = n} separator at m goes place number =
+    Gathers-as (ap (λ i. cond (i == 0) (decimal n) (separator ++ decimal n)) place
+    ∙ ap (λ i. cond (at == 0) (decimal i) (separator ++ decimal i)) number) goes
 
 -- the separated texts of the numbers from a + 1 to a + at, then the separator unless at = 0, and then the text of the next number, are the separated
 -- texts of the numbers from a + 1 to a + at + 1

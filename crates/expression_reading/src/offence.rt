@@ -5,6 +5,8 @@ ghost use Rattle.std.specs.Prelude.{◌≡◌, option_map};
 ghost use Rattle.expression_reading.specs.Offences.{kind_in, offence_in, mark_in, first_kind};
 ghost use Rattle.sym_model.specs.ExpressionOffence.{earlier, comes_first};
 
+use calc_base::LIMIT;
+
 /// The kinds of errors; errors at the same byte are in this order.
 #[derive(Clone, Copy, Debug)]
 pub enum Kind {
@@ -41,24 +43,21 @@ pub(crate) enum Mark {
     Opening { depth: u64 },
 }
 
-/// 2^127; the numbers of an expression must be below it.
-pub(crate) const WIDE: u128 = 1 << 127;
-
 /// The kind of the error of a mark; None if the mark is no error.
 pub(crate) fn kind_at(mark: Mark) -> Option<Kind>
     ensures { option_map kind_in result ≡ first_kind (mark_in mark) }
 {
     match mark {
-        Mark::Value { value } => (value >= WIDE).then_some(Kind::Literal),
+        Mark::Value { value } => (value >= LIMIT).then_some(Kind::Literal),
         Mark::Denominator { value } => {
-            if value >= WIDE {
+            if value >= LIMIT {
                 Some(Kind::Literal)
             } else {
                 (value == 0).then_some(Kind::Shape)
             }
         }
         Mark::Entry { before, value } => {
-            if value >= WIDE {
+            if value >= LIMIT {
                 Some(Kind::Literal)
             } else if before.count == 64 {
                 Some(Kind::Range)

@@ -12,11 +12,12 @@ ghost use Rattle.expression_reading.specs.ScanSteps.{StepsTo, is_whole, IsScanne
 ghost use Rattle.expression_reading.specs.Offences.{offence_in, mark_in, first_kind};
 
 use crate::formula::MAX_DEGREE;
-use crate::offence::{Before, Mark, Offence, WIDE, earlier, kind_at};
+use crate::offence::{Before, Mark, Offence, earlier, kind_at};
 use crate::symbol::{Symbol, symbol_of};
+use calc_base::LIMIT;
 
 /// The kind of text at the end of the bytes read so far. A number is stored with the byte at which
-/// it begins, and is replaced by 2^127 (`WIDE`) if it is greater.
+/// it begins, and is replaced by 2^127 if it is greater.
 #[derive(Clone, Copy)]
 pub(crate) enum Mode {
     Start,
@@ -53,7 +54,7 @@ pub(crate) struct Scan {
 }
 
 /// The number with the decimal digits of `value` and one more digit, whose byte is `digit`; or
-/// 2^127 (`WIDE`) if the number is greater.
+/// 2^127 if the number is greater.
 pub(crate) fn extended(value: u128, digit: u8) -> u128
     requires { 48 ≤ digit }
     ensures { result ≡ capped (10 * value + (digit - 48)) }
@@ -61,7 +62,7 @@ pub(crate) fn extended(value: u128, digit: u8) -> u128
     value
         .saturating_mul(10)
         .saturating_add(u128::from(digit - b'0'))
-        .min(WIDE)
+        .min(LIMIT)
 }
 
 /// The mode after a symbol that follows a whole factor; None if the symbol is invalid there.

@@ -10,11 +10,8 @@ ghost use Rattle.expression_reading.specs.Trees.{basis_of, tree_of, has_no_signs
 ghost use Rattle.expression_reading.specs.Weights.{IsWeighed};
 
 use crate::Expr;
-use calc_base::{Basis, Weight};
+use calc_base::{Basis, LIMIT, Weight};
 use coeff_rings::{factorial, gcd};
-
-/// 2^127. The numerator and the denominator of a weight must be below this limit.
-const LIMIT: u128 = 1 << 127;
 
 /// The weight with this numerator and denominator, if both are below 2^127.
 fn weight_of(num: u128, den: u128) -> Option<Weight>

@@ -5,3 +5,5 @@ pub mod OnePartSums
 pub mod OnePartValues
 pub mod ListSizes
 pub mod OnePartLists
+pub mod IndependentPowerSums
+pub mod IndependentFamilies

@@ -1,1 +1,2 @@
 pub mod OnePartLists
+pub mod SmallPartitions

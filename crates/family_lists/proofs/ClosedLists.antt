@@ -7,7 +7,7 @@ use Rattle.std.proofs.Common.{◌≡◌, ℕ, ◌-◌, ◌*◌, ◌<◌, ◌≤�
 use Rattle.std.specs.Prelude.{FitsSigned, ◌≢◌}
 use Rattle.std.specs.Int.{w128}
 use Rattle.std.proofs.lemmas.Nat.{mul-le}
-use Rattle.coeff_rings.specs.Checked.{checked_i128}
+use Rattle.fraction_laws.specs.Checked.{checked_i128}
 use Rattle.linear_combinations.specs.Entries.{coefficient as look_up, IsRefused}
 use Rattle.sym_model.specs.Sum.{Among, Once}
 use Rattle.sym_model.specs.Polynomial.{Poly, Same, same, coefficient, scale}

@@ -10,7 +10,7 @@ use Rattle.sym_model.specs.Bases.{product_over}
 use Rattle.sym_model.specs.WholeTerms.{WholeTerms, absolute_total}
 use Rattle.sym_model.proofs.Polynomials.{pair_determined}
 use Rattle.linear_combinations.specs.Gains.{over}
-use Rattle.linear_combinations.specs.Labels.{same_partition}
+use Rattle.linear_combinations.proofs.Labels.{same_partition}
 use Rattle.sparse_polys.specs.MonomialProducts.{greatest_size}
 use Rattle.sparse_polys.specs.LabelSizes.{AreWithin}
 use Rattle.sparse_polys.specs.Tables.{IsWholeTable}

@@ -4,7 +4,7 @@ use Rattle.std.proofs.Common.{inl, inr, arith, ℤ, pos, ◌+ℤ◌}
 use Rattle.std.specs.Cmp.{IsEquivalence}
 use Rattle.sym_model.specs.Partition.{size}
 use Rattle.sym_model.specs.Sum.{Among}
-use Rattle.coeff_rings.specs.Fractions.{whole}
+use Rattle.fraction_laws.specs.Fractions.{whole}
 use Rattle.linear_combinations.specs.Entries.{IsCombination, HasMoreAt}
 use Rattle.linear_combinations.specs.Gains.{WholeTermsOf, HaveLabels}
 use Rattle.linear_combinations.proofs.Gains.{gains_term}

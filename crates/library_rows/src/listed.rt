@@ -1,18 +1,19 @@
-//! Calls of the listers of horizontal strips, of vertical strips and of semistandard tableaux, with
-//! their results. A tableau is given by its column reading.
+//! Calls of the listers of horizontal strips, of vertical strips, of arrangements, of semistandard
+//! tableaux and of lattice tableaux, with their results. A tableau is given by its column reading.
 use crate::shapes::skew;
 use anyhow::Result;
 use calc_base::Lister;
-use partitions::Partition;
+use partitions::{Arrangements, Partition};
 use row_texts::{line, said};
 use skew_shapes::{HorizontalStrips, Skew, VerticalStrips};
 use std::alloc::Global;
-use tableau_iter::Fillings;
+use tableau_iter::{Fillings, Lattice};
 
-/// Prints the results of the listers of strips and of tableaux, one line each.
+/// Prints the results of the listers of strips, of arrangements and of tableaux, one line each.
 pub fn print(rt: &(impl Print + Alloc<A = Global>)) -> Result<()> {
     horizontal(rt)?;
     vertical(rt)?;
+    arranged(rt)?;
     fillings(rt)?;
     counted(rt)
 }
@@ -29,12 +30,23 @@ fn vertical(rt: &(impl Print + Alloc<A = Global>)) -> Result<()> {
     listed(rt, "(2,1) with a vertical strip of 2", &mut list)
 }
 
+fn arranged(rt: &(impl Print + Alloc<A = Global>)) -> Result<()> {
+    let shape = Partition::from_parts(rt.alloc(), &[2])?;
+    if shape.rows() > 2 {
+        return Ok(());
+    }
+    let mut list = Arrangements::new(rt.alloc(), &shape, 2)?;
+    listed(rt, "(2) in 2 places", &mut list)
+}
+
 fn fillings(rt: &(impl Print + Alloc<A = Global>)) -> Result<()> {
     let Some(shape) = skew(rt.alloc(), &[2, 1], &[])? else {
         return Ok(());
     };
     up_to_two(rt, &shape)?;
-    standard(rt, &shape)
+    standard(rt, &shape)?;
+    said(rt, "columns of (2,1)", &shape.columns())?;
+    lattice(rt, &shape)
 }
 
 fn up_to_two(rt: &(impl Print + Alloc<A = Global>), shape: &Skew) -> Result<()> {
@@ -45,6 +57,25 @@ fn up_to_two(rt: &(impl Print + Alloc<A = Global>), shape: &Skew) -> Result<()> 
 fn standard(rt: &(impl Print + Alloc<A = Global>), shape: &Skew) -> Result<()> {
     let mut list = Fillings::with_content(rt.alloc(), shape, &[1, 1, 1])?;
     listed(rt, "(2,1) with 1 2 3", &mut list)
+}
+
+/// Prints the content of the first lattice tableau with entries up to 2.
+fn lattice(rt: &(impl Print + Alloc<A = Global>), shape: &Skew) -> Result<()> {
+    let start = Partition::from_parts(rt.alloc(), &[])?;
+    if start.size() > 0 {
+        return Ok(());
+    }
+    if start.rows() > 0 {
+        return Ok(());
+    }
+    if shape.cells() > 3 {
+        return Ok(());
+    }
+    let mut list = Lattice::new(rt.alloc(), shape, &start, 2)?;
+    if list.advance() {
+        line(rt, "the content of (2,1)", list.content())?;
+    }
+    Ok(())
 }
 
 /// Prints the items of a list, a line each, but at most the first hundred.

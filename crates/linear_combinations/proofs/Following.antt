@@ -9,7 +9,7 @@ use Rattle.std.proofs.lemmas.List.{drop_all}
 use Rattle.std.specs.declared.cmp.Ordering.{Ordering}
 use Rattle.sym_model.specs.Expansion.{Fraction}
 use Rattle.sym_model.specs.Canonical.{is_reduced}
-use Rattle.coeff_rings.specs.Fractions.{whole, InLowestTerms}
+use Rattle.fraction_laws.specs.Fractions.{whole, InLowestTerms}
 use Rattle.linear_combinations.specs.Entries.{is_ordered, are_terms, is_canonical_list, is_next, each_follows}
 use Rattle.linear_combinations.proofs.LowestTerms.{is_reduced-lowest}
 

@@ -16,7 +16,7 @@ use Rattle.sym_model.proofs.Exponents.{same_from, same_apart, same_or_not}
 use Rattle.sym_model.proofs.Polynomials.{at_only, coefficient_pair, same_from_pair}
 use Rattle.linear_combinations.specs.Entries.{coefficient}
 use Rattle.linear_combinations.specs.Gains.{WholeTermsOf, over, only, mass_at, Gains, Overflows}
-use Rattle.linear_combinations.specs.Labels.{same_partition}
+use Rattle.printing_laws.proofs.Labels.{same_partition}
 use Rattle.linear_combinations.proofs.Gains.{over_at, over_append}
 use Rattle.linear_combinations.proofs.Totals.{found-among}
 use lib.IntN.{*ℤ-zero, +ℤ_idl}

@@ -14,8 +14,8 @@ use Rattle.sym_model.proofs.Lists.{take-read, split-read}
 use Rattle.std.proofs.lemmas.Map.{lookup-none}
 use Rattle.std.proofs.lemmas.Map.Keys.{IsDistinct-tail}
 use Rattle.std.proofs.lemmas.Map.Entries.{none_past_head}
-use Rattle.coeff_rings.specs.Fractions.{whole}
-use Rattle.coeff_rings.specs.Checked.{checked_i128}
+use Rattle.fraction_laws.specs.Fractions.{whole}
+use Rattle.fraction_laws.specs.Checked.{checked_i128}
 use Rattle.coeff_rings.proofs.Sizes.{refused_size}
 use Rattle.sym_model.specs.Sum.{total, Among}
 use Rattle.sym_model.proofs.Integers.{nat_abs-sum}

@@ -14,7 +14,7 @@ use Rattle.std.proofs.lemmas.Bool.{and_from, and_parts}
 use Rattle.std.proofs.lemmas.Map.Made.{lookup_key_passes}
 use Rattle.indexmap.specs.IndexMap.{insert_entry}
 use Rattle.indexmap.specs.Layout.{set_value_at}
-use Rattle.coeff_rings.specs.Fractions.{whole, InLowestTerms}
+use Rattle.fraction_laws.specs.Fractions.{whole, InLowestTerms}
 use Rattle.sym_model.specs.Expansion.{Fraction}
 use Rattle.sym_model.specs.Canonical.{is_reduced}
 use Rattle.linear_combinations.specs.Entries.{coefficient, HasMoreAt, IsTable}

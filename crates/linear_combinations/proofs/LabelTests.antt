@@ -14,7 +14,7 @@ use Rattle.sym_model.proofs.Orders.{is_label-from}
 use Rattle.partitions.specs.Limits.{IsWithinLimits}
 use Rattle.perm_codes.specs.Limits.{IsWithinLimits as IsShortKept}
 use Rattle.std.specs.Cmp.Lexicographic.{pointwise, nat_list_eq_equiv}
-use Rattle.linear_combinations.specs.Labels.{same_partition}
+use Rattle.printing_laws.proofs.Labels.{same_partition}
 
 -- a partition with at most 512 rows and 4096 cells passes the test of a label
 pub is_label-limits : (parts : List ℕ) → IsWithinLimits parts → is_label parts ≡ true

@@ -14,3 +14,4 @@ pub mod Weighed
 pub mod Found
 pub mod Counted
 pub mod Inserted
+pub mod Labels

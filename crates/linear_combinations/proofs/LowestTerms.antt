@@ -4,9 +4,9 @@ use Rattle.std.specs.Int.{IsGcd}
 use Rattle.sym_model.specs.Expansion.{Fraction}
 use Rattle.sym_model.specs.Canonical.{is_reduced}
 use Rattle.sym_model.proofs.Orders.{is_reduced-from, is_reduced-tells}
-use Rattle.coeff_rings.specs.Fractions.{whole, InLowestTerms, fraction_product}
-use Rattle.coeff_rings.specs.Proved.Fractions.{Stands-same, Stands-itself, Stands-whole, Stands-product}
-use Rattle.coeff_rings.specs.Proved.FractionLaws.{num-zero}
+use Rattle.fraction_laws.specs.Fractions.{whole, InLowestTerms, fraction_product}
+use Rattle.fraction_laws.proofs.Fractions.{Stands-same, Stands-itself, Stands-whole, Stands-product}
+use Rattle.fraction_laws.proofs.FractionLaws.{num-zero}
 
 pub nat_abs-is : (z : ℤ) → nat_abs z ≡ unsigned_abs z
 nat_abs-is (pos n) = refl

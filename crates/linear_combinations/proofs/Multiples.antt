@@ -8,8 +8,8 @@ use Rattle.std.proofs.lemmas.Int.{unsigned_abs-mul}
 use native.Mathlib.Nat.{mul-pos}
 use Rattle.indexmap.specs.Layout.{set_value_at}
 use Rattle.sym_model.specs.Expansion.{Fraction}
-use Rattle.coeff_rings.specs.Fractions.{whole, InLowestTerms, fraction_product}
-use Rattle.coeff_rings.specs.Proved.Fractions.{Stands-itself, Stands-product}
+use Rattle.fraction_laws.specs.Fractions.{whole, InLowestTerms, fraction_product}
+use Rattle.fraction_laws.proofs.Fractions.{Stands-itself, Stands-product}
 use Rattle.coeff_rings.proofs.Sizes.{size_positive}
 use Rattle.sym_model.specs.Canonical.{is_reduced}
 use Rattle.sym_model.specs.Sum.{Among}

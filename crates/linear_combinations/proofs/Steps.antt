@@ -9,9 +9,9 @@ use Rattle.std.specs.Map.{lookup, keys_of}
 use Rattle.std.proofs.lemmas.Map.{lookup-none}
 use Rattle.std.proofs.lemmas.Map.Keys.{IsDistinct-tail}
 use Rattle.std.proofs.lemmas.Map.Entries.{none_past_head}
-use Rattle.coeff_rings.specs.Fractions.{whole, InLowestTerms, fraction_sum}
-use Rattle.coeff_rings.specs.Proved.FractionLaws.{sum-zero}
-use Rattle.coeff_rings.specs.Answers.{AnswersSum}
+use Rattle.fraction_laws.specs.Fractions.{whole, InLowestTerms, fraction_sum}
+use Rattle.fraction_laws.proofs.FractionLaws.{sum-zero}
+use Rattle.fraction_laws.specs.Answers.{AnswersSum}
 use Rattle.sym_model.specs.Expansion.{Fraction}
 use Rattle.linear_combinations.specs.Entries.{coefficient, IsCombination, HasMoreAt, IsSumOf, IsRefused}
 

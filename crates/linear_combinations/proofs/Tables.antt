@@ -11,7 +11,7 @@ use Rattle.std.proofs.lemmas.Bool.{and_parts, and_from}
 use Rattle.std.proofs.lemmas.Map.{lookup-none}
 use Rattle.std.proofs.lemmas.Map.Keys.{IsDistinct-tail}
 use Rattle.std.proofs.lemmas.Map.Entries.{none_past_head}
-use Rattle.coeff_rings.specs.Fractions.{InLowestTerms}
+use Rattle.fraction_laws.specs.Fractions.{InLowestTerms}
 use Rattle.sym_model.specs.Expansion.{Fraction}
 use Rattle.sym_model.specs.Canonical.{is_reduced}
 use Rattle.linear_combinations.proofs.LowestTerms.{lowest-is_reduced}

@@ -7,7 +7,7 @@ use Rattle.std.specs.Prelude.{Option, nat_abs, ◌≤ℤ◌}
 use Rattle.std.specs.Cmp.{IsEquivalence}
 use Rattle.std.specs.Option.{unwrap_or}
 use Rattle.std.proofs.lemmas.Int.{ints}
-use Rattle.coeff_rings.specs.Fractions.{whole}
+use Rattle.fraction_laws.specs.Fractions.{whole}
 use Rattle.sym_model.specs.Sum.{Among}
 use Rattle.sym_model.proofs.Integers.{nat_abs-product, at_most_absolute}
 use Rattle.linear_combinations.specs.Entries.{coefficient, IsCombination}

@@ -4,7 +4,7 @@ use Rattle.std.specs.Prelude.{ℕ, ◌^◌, ◌<◌, pos, Bool, map}
 use Rattle.std.specs.Int.{◌∣◌}
 use Rattle.sym_model.specs.Expansion.{Fraction, Terms}
 use Rattle.sym_model.specs.Sum.{Among}
-use Rattle.coeff_rings.specs.Fractions.{scaled as numerator_over}
+use Rattle.fraction_laws.specs.Fractions.{scaled as numerator_over}
 use Rattle.linear_combinations.specs.Entries.{coefficient, IsCombination}
 use Rattle.linear_combinations.specs.Gains.{WholeTermsOf, scaled, Gains, Overflows}
 

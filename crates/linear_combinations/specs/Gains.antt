@@ -3,7 +3,7 @@
 use Rattle.std.specs.Prelude.{◌≡◌, ℕ, ◌+◌, ◌^◌, ◌≤◌, ℤ, pos, ◌+ℤ◌, nat_abs, Bool, cond, List}
 use Rattle.std.specs.Prelude.{[], ◌∷◌, ◌++◌, map, FitsSigned}
 use Rattle.std.specs.Int.{w128}
-use Rattle.coeff_rings.specs.Checked.{checked_i128}
+use Rattle.fraction_laws.specs.Checked.{checked_i128}
 use Rattle.sym_model.specs.Polynomial.{pair}
 use Rattle.linear_combinations.specs.Entries.{coefficient, IsRefused}
 -- `scaled c terms`: the list `terms` with each coefficient multiplied by c

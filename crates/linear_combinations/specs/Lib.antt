@@ -1,4 +1,3 @@
-pub mod Labels
 pub mod Entries
 pub mod Gains
 pub mod Cleared

@@ -46,7 +46,7 @@ pub trait Label: Eq + Hash + Drop {
 
 impl Label for Partition {
     ghost use Rattle.sym_model.proofs.Orders.{printed_order-total};
-    ghost use Rattle.linear_combinations.specs.Labels.{same_partition, partition_order_equal};
+    ghost use Rattle.printing_laws.proofs.Labels.{same_partition, partition_order_equal};
 
     ghost is_label = { is_label };
 

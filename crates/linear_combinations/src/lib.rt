@@ -16,8 +16,8 @@
 //! `into_iter` give the whole list.
 //!
 //! For `Int`, each function that adds terms (`add_owned`, `add_at_label`, `add_each`,
-//! `subtract_each`, `add_terms`, `add_multiple`, `add_list`, and `add_by`, which adds the image of
-//! a table under a `Rule`) states in one clause what is added: for every function φ of labels, the
+//! `subtract_each`, `add_terms`, and `add_by`, which adds the image of a table under a `Rule`)
+//! states in one clause what is added: for every function φ of labels, the
 //! amount by which the sum of c·φ(label) over the terms of the table increases. It returns `Large`
 //! only if at some label the absolute values of the old coefficient and of all coefficients that
 //! are added there sum up to 2^127 or more.

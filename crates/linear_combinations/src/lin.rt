@@ -1,7 +1,7 @@
 //! Finite linear combinations of labels.
 ghost use Rattle.std.specs.Prelude.{◌≡◌, ◌≢◌, ◌<◌, ◌↔◌, ◌⊎◌, [], Some, None, length, slice_get};
 ghost use Rattle.std.specs.Prelude.{IsTrue, IfOk, OnOk, OnErr, IsErrOf, pos};
-ghost use Rattle.coeff_rings.specs.Fractions.{whole};
+ghost use Rattle.fraction_laws.specs.Fractions.{whole};
 ghost use Rattle.std.specs.Prelude.{IsSorted};
 ghost use Rattle.indexmap.specs.IndexMap.{index_map_len, get, IsUnique, Updates};
 ghost use Rattle.indexmap.specs.Layout.{set_value_at};

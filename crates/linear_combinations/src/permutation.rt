@@ -9,8 +9,8 @@ use perm_codes::Perm;
 use std::cmp::Ordering;
 
 impl Label for Perm {
-    ghost use Rattle.linear_combinations.specs.Labels.{same_partition, permutation_order_is_total};
-    ghost use Rattle.linear_combinations.specs.Labels.{permutation_order_equal};
+    ghost use Rattle.printing_laws.proofs.Labels.{same_partition, permutation_order_is_total};
+    ghost use Rattle.printing_laws.proofs.Labels.{permutation_order_equal};
 
     ghost is_label = { is_permutation_label };
 

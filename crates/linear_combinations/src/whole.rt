@@ -5,7 +5,7 @@
 ghost use Rattle.std.specs.Prelude.{◌≡◌, ◌↔◌, ℤ, pos, neg_ℤ, [], ◌∷◌, FitsSigned};
 ghost use Rattle.std.specs.Prelude.{OnOk, OnErr, IsErrOf};
 ghost use Rattle.std.specs.Int.{w128};
-ghost use Rattle.coeff_rings.specs.Fractions.{whole};
+ghost use Rattle.fraction_laws.specs.Fractions.{whole};
 ghost use Rattle.sym_model.specs.Sum.{Among};
 ghost use Rattle.linear_combinations.specs.Entries.{coefficient, AreHeld, IsCanonicalList};
 ghost use Rattle.linear_combinations.specs.Entries.{IsCombination, IsRefused};
@@ -92,25 +92,6 @@ impl<L: Label> Lin<L, Int> {
         Ok(())
     }
 
-    /// Adds `c` times the table `other`.
-    ///
-    /// On an error some of the terms of `other`, times `c`, may have been added.
-    pub fn add_multiple(&mut self, other: &Lin<L, Int>, c: Int) -> Result<(), SumFault>
-        ensures gains { OnOk result (Gains self.old (scaled c other.now) self.new) }
-        ensures large { IsErrOf result SumFault.Large
-            → Overflows L.eq self.old (scaled c other.now) }
-        ensures table { OnOk result (IsCombination L.eq L.is_label whole self.new) }
-        ensures held { OnOk result (AreHeld L.eq (pos 0) (FitsSigned w128) self.new) }
-        ensures other { IsCombination L.eq L.is_label whole other.now }
-    {
-        for (label, a) in other.iter() {
-            let product = c.mul(*a).ok_or(SumFault::Large)?;
-            self.add_at_label(label, product)?;
-        }
-        self.is_combination();
-        Ok(())
-    }
-
     /// Adds the table `other`.
     ///
     /// Returns `Large` if the sum of the two coefficients at the first label of `other` overflows,
@@ -126,25 +107,6 @@ impl<L: Label> Lin<L, Int> {
     {
         for (label, a) in other.iter() {
             self.add_at_label(label, *a)?;
-        }
-        self.is_combination();
-        Ok(())
-    }
-
-    /// Adds `c` times each term of `list`.
-    ///
-    /// On an error some of these terms may have been added to the table.
-    pub fn add_list(&mut self, list: &Terms<L, Int>, c: Int) -> Result<(), SumFault>
-        ensures gains { OnOk result (Gains self.old (scaled c list.now) self.new) }
-        ensures large { IsErrOf result SumFault.Large
-            → Overflows L.eq self.old (scaled c list.now) }
-        ensures table { OnOk result (IsCombination L.eq L.is_label whole self.new) }
-        ensures held { OnOk result (AreHeld L.eq (pos 0) (FitsSigned w128) self.new) }
-        ensures list { IsCanonicalList L.order L.is_label whole list.now }
-    {
-        for (label, a) in list.iter() {
-            let product = c.mul(*a).ok_or(SumFault::Large)?;
-            self.add_at_label(label, product)?;
         }
         self.is_combination();
         Ok(())

@@ -8,8 +8,8 @@ use Rattle.std.specs.declared.cmp.Ordering.TheVariants.{Less}
 use Rattle.std.proofs.lemmas.Bool.{and_from, cases_lt, cases_Bool, leb-true}
 use Rattle.std.proofs.lemmas.Int.{ints}
 use Rattle.std.proofs.lemmas.List.{get_or_default}
-use Rattle.coeff_rings.specs.Fractions.{whole}
-use Rattle.coeff_rings.specs.Proved.Fractions.{InLowestTerms-whole}
+use Rattle.fraction_laws.specs.Fractions.{whole}
+use Rattle.fraction_laws.proofs.Fractions.{InLowestTerms-whole}
 use Rattle.sym_model.specs.Sum.{Among}
 use Rattle.sym_model.specs.Partition.{IsPartition, Holds, rows, size}
 use Rattle.sym_model.specs.Polynomial.{same, coefficient}

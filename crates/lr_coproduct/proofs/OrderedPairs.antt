@@ -10,7 +10,7 @@ use Rattle.std.proofs.lemmas.Bool.{and_parts, and_from}
 use Rattle.std.proofs.lemmas.Cmp.{tied_itself}
 use Rattle.std.proofs.lemmas.Int.{ints}
 use Rattle.std.proofs.lemmas.List.{map-append}
-use Rattle.coeff_rings.specs.Fractions.{whole}
+use Rattle.fraction_laws.specs.Fractions.{whole}
 use Rattle.sym_model.specs.Sum.{total, Among}
 use Rattle.sym_model.specs.Canonical.{is_reduced}
 use Rattle.sym_model.specs.Polynomial.{Same, plus, coefficient as coefficient_of}
@@ -24,7 +24,7 @@ use Rattle.sym_model.proofs.WholeTerms.{coefficient_of_combined}
 use Rattle.sym_model.proofs.Orders.{printed_order-total}
 use Rattle.linear_combinations.specs.Entries.{is_ordered, are_terms, IsCanonicalList}
 use Rattle.linear_combinations.proofs.Ordered.{StandsBefore, IsOrdered, is_ordered-from, canonical-ordered, canonical-append}
-use Rattle.sparse_polys.specs.Labels.{pair_order_is_total}
+use Rattle.linear_combinations.proofs.Labels.{pair_order_is_total}
 use Rattle.lr_coproduct.specs.PairTerms.{pair_sum, second_sum, with_first, AreBefore}
 
 -- ---- the polynomial of the terms labelled by pairs

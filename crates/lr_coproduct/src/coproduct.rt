@@ -2,7 +2,7 @@
 //! of variables and a Schur polynomial in another set.
 ghost use Rattle.std.specs.Prelude.{◌≡◌, ℕ, ◌+◌, ℤ, pos, List, ◌⊎◌, false, None, length, IfOk};
 ghost use Rattle.std.specs.Prelude.{OnOk, IsErrOf};
-ghost use Rattle.coeff_rings.specs.Fractions.{whole};
+ghost use Rattle.fraction_laws.specs.Fractions.{whole};
 ghost use Rattle.sym_model.specs.Sum.{Among};
 ghost use Rattle.sym_model.specs.GoodTableau.{skew_count};
 ghost use Rattle.sym_model.specs.LabelLimits.{is_label, is_pair_label};

@@ -2,7 +2,7 @@
 //! lattice tableaux does not change if the inner partition and the content are exchanged.
 ghost use Rattle.std.specs.Prelude.{◌≡◌, ℕ, ◌*◌, ◌<◌, ℤ, pos, List, ◌∷◌, [], ◌++◌, false, None};
 ghost use Rattle.std.specs.Prelude.{length, IfOk, OnOk};
-ghost use Rattle.coeff_rings.specs.Fractions.{whole};
+ghost use Rattle.fraction_laws.specs.Fractions.{whole};
 ghost use Rattle.sym_model.specs.LabelLimits.{is_label};
 ghost use Rattle.sym_model.specs.Partition.{IsPartition, size};
 ghost use Rattle.sym_model.specs.Polynomial.{coefficient};

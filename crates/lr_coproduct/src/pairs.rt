@@ -1,6 +1,6 @@
 //! Terms labelled by pairs of partitions, made from terms labelled by partitions.
 ghost use Rattle.std.specs.Prelude.{◌≡◌, [], ◌∷◌, ◌++◌, OnOk};
-ghost use Rattle.coeff_rings.specs.Fractions.{whole};
+ghost use Rattle.fraction_laws.specs.Fractions.{whole};
 ghost use Rattle.sym_model.specs.LabelLimits.{is_label};
 ghost use Rattle.sym_model.specs.PrintedOrder.{printed_order};
 ghost use Rattle.linear_combinations.specs.Entries.{IsCanonicalList};

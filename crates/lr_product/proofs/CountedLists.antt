@@ -6,7 +6,7 @@ use Rattle.std.specs.Prelude.{Some, slice_get, FitsSigned, nat_eq}
 use Rattle.std.specs.Int.{w128}
 use Rattle.std.specs.Cmp.Lexicographic.{nat_list_eq_equiv, pointwise}
 use Rattle.std.proofs.lemmas.Bool.{cases_lt, and_parts}
-use Rattle.coeff_rings.specs.Fractions.{whole}
+use Rattle.fraction_laws.specs.Fractions.{whole}
 use Rattle.sym_model.specs.Sum.{Among}
 use Rattle.sym_model.specs.Partition.{IsPartition, rows, without_last_zeros}
 use Rattle.sym_model.specs.LabelLimits.{is_label}
@@ -17,7 +17,7 @@ use Rattle.sym_model.proofs.SortedParts.{IsPartition-without_last_zeros, size-wi
 use Rattle.sym_model.proofs.Parts.{length-without_last_zeros}
 use Rattle.partitions.specs.Limits.{IsWithinLimits}
 use Rattle.linear_combinations.specs.Entries.{coefficient, AreHeld, HasMoreAt, HasSameCoefficients, IsCombination}
-use Rattle.linear_combinations.specs.Labels.{same_partition}
+use Rattle.linear_combinations.proofs.Labels.{same_partition}
 use Rattle.linear_combinations.proofs.Found.{coefficient_found, coefficient_of_term}
 use Rattle.linear_combinations.proofs.LowestTerms.{not_zero-is_reduced}
 use Rattle.linear_combinations.proofs.Steps.{IsCombination-empty}

@@ -14,7 +14,7 @@ use Rattle.sym_model.specs.GoodTableau.{good_tableaux, product_count, skew_count
 use Rattle.sym_model.specs.Alternant.{alternant, staircase, schur_coefficient}
 use Rattle.sym_model.specs.LabelLimits.{is_partition, is_label}
 use Rattle.sym_model.specs.WholeTerms.{WholeTerms, as_fractions, absolute_total}
-use Rattle.coeff_rings.specs.Fractions.{whole}
+use Rattle.fraction_laws.specs.Fractions.{whole}
 use Rattle.linear_combinations.proofs.Steps.{IsCombination-empty}
 use Rattle.sym_model.specs.Products.{schur_product, classical_product}
 use Rattle.sym_model.specs.PastLimit.{IsSchurCoefficientOf, variables_or}

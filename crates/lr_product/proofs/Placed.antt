@@ -18,7 +18,7 @@ use Rattle.sym_model.proofs.Orders.{printed_order-total}
 use Rattle.sym_model.proofs.Polynomials.{coefficient_plus}
 use Rattle.sym_model.proofs.Parts.{length-without_last_zeros}
 use Rattle.sym_model.proofs.SortedParts.{IsPartition-without_last_zeros}
-use Rattle.coeff_rings.specs.Fractions.{whole}
+use Rattle.fraction_laws.specs.Fractions.{whole}
 use Rattle.linear_combinations.specs.Entries.{IsCanonicalList, IsCombination}
 use Rattle.linear_combinations.proofs.Found.{coefficient_found, coefficient_of_term}
 use Rattle.linear_combinations.proofs.Ordered.{canonical-ordered, distinct-ordered}
@@ -48,7 +48,7 @@ here_at [] at h = absurd (omega arith)
 here_at (e ∷ es) zero h = refl
 here_at (e ∷ es) (suc at) h = here_at es at (omega arith)
 
-past_at_end : (es : List (List ℕ × ℕ)) (at : ℕ) → length es ≤ at → entry_at es at ≡ ([], 0)
+pub past_at_end : (es : List (List ℕ × ℕ)) (at : ℕ) → length es ≤ at → entry_at es at ≡ ([], 0)
 past_at_end [] zero h = refl
 past_at_end [] (suc at) h = refl
 past_at_end (e ∷ es) zero h = absurd (omega arith)

@@ -7,7 +7,7 @@ use Rattle.sym_model.specs.LabelLimits.{is_label}
 use Rattle.sym_model.specs.Partition.{IsPartition, rows}
 use Rattle.sym_model.specs.Polynomial.{coefficient, resize}
 use Rattle.sym_model.specs.WholeTerms.{WholeTerms}
-use Rattle.coeff_rings.specs.Fractions.{whole}
+use Rattle.fraction_laws.specs.Fractions.{whole}
 use Rattle.linear_combinations.specs.Entries.{IsCombination}
 use Rattle.tableau_laws.specs.ColumnFold.{column_lines}
 use Rattle.lr_product.specs.WeighedSum.{over_states, comes_to}

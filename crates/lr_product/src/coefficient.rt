@@ -13,9 +13,9 @@ ghost use Rattle.lr_product.specs.Capped.{Agree};
 
 use crate::columns::ways_by_columns;
 use crate::letter_room::has_no_room;
-use crate::states::{CAP, States};
+use crate::states::{States, coefficient_of};
 use crate::table::capped;
-use calc_base::SumFault;
+use calc_base::{NoMemory, SumFault};
 use coeff_rings::Int;
 use partitions::Partition;
 use std::alloc::Global;
@@ -40,59 +40,80 @@ pub fn coef(
     ensures fits { OnOk result (HasPast (IsProductCoefficientOf outer.now left.now right.now)
         → ⊥) }
 {
-    count_in(alloc, outer, left, right)
+    let count = count_in(alloc, outer, left, right)?;
+    Ok(coefficient_of(count)?)
 }
 
 /// The coefficient of `outer` in the product of `left` and `right`: the number of lattice tableaux
-/// of the skew shape outer/inner with the content μ. Here inner is the factor that has more cells,
-/// and μ is the other factor; with the factors exchanged, the skew shape would not be smaller.
+/// of the skew shape outer/inner with the content μ. Here μ is the factor inside which there are
+/// fewer partitions, since the contents of the first columns, or rows, of a tableau are partitions
+/// inside μ. A coefficient over 2^127 is replaced by 2^127.
 fn count_in(
     alloc: Global,
     outer: &Partition,
     left: &Partition,
     right: &Partition,
-) -> Result<Int, SumFault>
-    ensures value { IfOk result (λ c. c
-        ≡ pos (product_count (rows outer.now) left.now right.now outer.now)) }
-    ensures large { IsErrOf result SumFault.Large
-        → 2 ^ 127 ≤ product_count (rows outer.now) left.now right.now outer.now }
-    ensures fits { OnOk result (product_count (rows outer.now) left.now right.now outer.now
-        < 2 ^ 127) }
-    ensures factors { IsPartition outer.now × IsPartition left.now × IsPartition right.now }
+) -> Result<u128, NoMemory>
+    ensures agrees { IfOk result (λ count. Agree count
+        (product_count (rows outer.now) left.now right.now outer.now)) }
+    ensures factors { OnOk result
+        (IsPartition outer.now × IsPartition left.now × IsPartition right.now) }
 {
-    if left.size() < right.size() {
+    let in_left = number_inside(alloc, left.parts())?;
+    let in_right = number_inside(alloc, right.parts())?;
+    if in_left < in_right {
         return count_inside(alloc, outer, right, left);
     }
     count_inside(alloc, outer, left, right)
 }
 
-/// The number of lattice tableaux of the skew shape outer/inner with the content `content`. Their
-/// letters are at most the number of parts of `content`, so only these letters are tried.
+/// The number of partitions inside the partition `shape`, or 2^64 - 1 if it is greater.
+fn number_inside(alloc: Global, shape: &[u16]) -> Result<u64, NoMemory> {
+    // From the last row up: for each x up to the part of this row, the number of choices of this
+    // row and the rows below it in which this row has at most x cells.
+    let mut choices: Vec<u64> = vec![in alloc; 1; 1]?;
+    for part in shape.iter().rev() {
+        let most = last_of(&choices);
+        choices.resize(usize::from(*part) + 1, most)?;
+        add_up(&mut choices);
+    }
+    Ok(last_of(&choices))
+}
+
+/// The last number; 1 if there is none.
+fn last_of(numbers: &[u64]) -> u64 {
+    numbers.last().copied().unwrap_or(1)
+}
+
+/// Replaces each number by the sum of the numbers up to it.
+fn add_up(numbers: &mut [u64]) {
+    let mut sum: u64 = 0;
+    for number in numbers {
+        sum = sum.saturating_add(*number);
+        *number = sum;
+    }
+}
+
+/// The number of lattice tableaux of the skew shape outer/inner with the content `content`, or 2^127
+/// if it is greater. Their letters are at most the number of parts of `content`, so only these
+/// letters are tried.
 fn count_inside(
     alloc: Global,
     outer: &Partition,
     inner: &Partition,
     content: &Partition,
-) -> Result<Int, SumFault>
-    ensures value { IfOk result (λ c. c
-        ≡ pos (product_count (rows outer.now) inner.now content.now outer.now)) }
-    ensures large { IsErrOf result SumFault.Large
-        → 2 ^ 127 ≤ product_count (rows outer.now) inner.now content.now outer.now }
-    ensures fits { OnOk result (product_count (rows outer.now) inner.now content.now outer.now
-        < 2 ^ 127) }
+) -> Result<u128, NoMemory>
+    ensures agrees { IfOk result (λ count. Agree count
+        (product_count (rows outer.now) inner.now content.now outer.now)) }
     ensures factors { IsPartition outer.now × IsPartition inner.now × IsPartition content.now }
 {
     if has_no_room(outer, inner, content) {
-        return Ok(Int::new(0));
+        return Ok(0);
     }
     let letters = content.rows();
     let parts = content.parts();
     let table = ways_by_columns(alloc, &[], outer, inner.parts(), letters, parts)?;
-    let count = count_of(&table, parts);
-    if count >= CAP {
-        return Err(SumFault::Large);
-    }
-    Ok(Int::new(count as i128))
+    Ok(count_of(&table, parts))
 }
 
 /// The total count of those states of the table that begin with the numbers of `parts`, or 2^127 if

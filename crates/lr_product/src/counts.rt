@@ -13,8 +13,8 @@ ghost use Rattle.lr_product.specs.WeighedSum.{weighed, unreached, comes_to};
 ghost use Rattle.lr_product.specs.Counts.{good_count, HasCounts, IsPastSomewhere};
 
 use crate::columns::ways_by_columns;
-use crate::sorted_pairs::sorted_pairs;
-use crate::states::{CAP, States};
+use crate::sorted_pairs::{refuse_large, sorted_pairs};
+use crate::states::{States, coefficient_of};
 use calc_base::SumFault;
 use coeff_rings::Int;
 use linear_combinations::{Lin, Terms};
@@ -73,6 +73,7 @@ pub(crate) fn terms_of_table(
     ensures large { IsErrOf result SumFault.Large
         → IsPastSomewhere letters (λ parts. weighed letters (comes_to parts) table.entries) }
 {
+    refuse_large(&table)?;
     let pairs = sorted_pairs(alloc, &table, letters)?;
     if let Some(terms) = Terms::from_pairs(pairs) {
         return Ok(terms);
@@ -125,9 +126,7 @@ fn add_sum(
         ≡ pos n → 2 ^ 127 ≤ n + ways }
     ensures past { 2 ^ 127 ≤ ways → IsErrOf result SumFault.Large }
 {
-    if ways >= CAP {
-        return Err(SumFault::Large);
-    }
+    let count = coefficient_of(ways)?;
     let label = Partition::from_valid_numbers(alloc, sum)?;
-    terms.add_term(label, Int::new(ways as i128))
+    terms.add_term(label, count)
 }

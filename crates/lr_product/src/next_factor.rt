@@ -9,7 +9,7 @@ ghost use Rattle.sym_model.specs.LabelLimits.{is_label};
 ghost use Rattle.sym_model.specs.Partition.{IsPartition, rows};
 ghost use Rattle.sym_model.specs.Polynomial.{Same};
 ghost use Rattle.sym_model.specs.Sum.{Among};
-ghost use Rattle.coeff_rings.specs.Fractions.{whole};
+ghost use Rattle.fraction_laws.specs.Fractions.{whole};
 ghost use Rattle.linear_combinations.specs.Entries.{IsCombination};
 ghost use Rattle.product_laws.specs.FactorSteps.{multiplied};
 ghost use Rattle.product_laws.specs.CountedProducts.{Reaches};

@@ -47,7 +47,8 @@ pub(crate) fn with_shape(
         (λ table. weighed letters (unreached letters 4096) table.entries ≡ 0) }
     ensures shape { OnOk result (IsPartition outer.now) }
 {
-    if letters > 0 && is_faster_by_rows(outer, letters, !bound.is_empty()) {
+    let has_one_start = starts.len() <= 1;
+    if letters > 0 && is_faster_by_rows(outer, letters, !bound.is_empty(), has_one_start) {
         return with_rows(alloc, starts, outer, inner, letters, bound);
     }
     with_columns(alloc, starts, outer, inner, letters, bound)
@@ -56,10 +57,11 @@ pub(crate) fn with_shape(
 /// Whether a shape is probably filled faster by rows than by columns. If `is_bounded`, only sums
 /// that begin with given numbers are to be counted, and the answer is yes for shapes of at most
 /// five rows: a state is left out as soon as a number of its sum is too small to become the given
-/// number. Otherwise two conditions must hold: the number of columns is at least three times the
-/// number of rows; and either rows and letters together are at most six, or there are at most four
-/// rows, all of the same length. For other shapes the table by rows usually has more states.
-fn is_faster_by_rows(outer: &Partition, letters: u16, is_bounded: bool) -> bool
+/// number. Otherwise three conditions must hold: the shape has one row, or there is one start, which
+/// nearly determines the row added last; the number of columns is at least three times the number
+/// of rows; and either rows and letters together are at most six, or there are at most four rows,
+/// all of the same length. For other shapes the table by rows usually has more states.
+fn is_faster_by_rows(outer: &Partition, letters: u16, is_bounded: bool, has_one_start: bool) -> bool
     ensures shape { IsPartition outer.now }
 {
     let rows = outer.rows();
@@ -67,7 +69,7 @@ fn is_faster_by_rows(outer: &Partition, letters: u16, is_bounded: bool) -> bool
     if is_bounded {
         return rows <= 5;
     }
-    if columns / 3 < rows {
+    if columns / 3 < rows || rows > 1 && !has_one_start {
         return false;
     }
     if rows.saturating_add(letters) <= 6 {

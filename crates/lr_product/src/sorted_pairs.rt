@@ -1,21 +1,34 @@
 //! Terms made from a table of states: the label of a term is the sum of a state (its first numbers)
 //! without the zeros at its end, and its coefficient is the count of this state. The terms are
 //! sorted into the printed order; no counts are added up.
-ghost use Rattle.std.specs.Prelude.{◌≡◌, ℕ, ◌+◌, ◌^◌, ◌≤◌, ◌+ℤ◌, List, pos, IfOk, OnOk};
-ghost use Rattle.std.specs.Prelude.{IsErrOf};
+ghost use Rattle.std.specs.Prelude.{◌≡◌, ℕ, ◌+◌, ◌^◌, ◌≤◌, ◌+ℤ◌, List, pos, IfOk, OnErr, OnOk};
 ghost use Rattle.std.specs.List.{sum_by};
 ghost use Rattle.std.specs.List.Sorted.{IsPermutation};
 ghost use Rattle.sym_model.specs.Polynomial.{coefficient};
 ghost use Rattle.lr_product.specs.WeighedSum.{weighed, unreached, comes_to};
-ghost use Rattle.lr_product.specs.Counts.{IsPastSomewhere};
-ghost use Rattle.lr_product.specs.Places.{entry_at, count_at, AreSmallTerms};
+ghost use Rattle.lr_product.specs.Places.{entry_at, count_at, AreExact, AreSmallTerms};
 
 use crate::states::{CAP, States};
-use calc_base::{NoMemory, SumFault};
+use calc_base::{Large, NoMemory};
 use coeff_rings::Int;
 use partitions::Partition;
 use std::alloc::Global;
 use std::cmp::Ordering;
+
+/// Returns an error if and only if some count is 2^127 or more. Allocates no memory.
+pub(crate) fn refuse_large(table: &States) -> Result<(), Large>
+    ensures exact { OnOk result (AreExact table.now.entries) }
+    ensures large { OnErr result
+        ((at : ℕ) × (2 ^ 127 ≤ (entry_at table.now.entries at).1)) }
+{
+    for at in 0..table.len() {
+        let (_, ways) = table.entry(at);
+        if ways >= CAP {
+            return Err(Large);
+        }
+    }
+    Ok(())
+}
 
 /// For each state with a positive count, its sum without the zeros at the end, paired with its
 /// count. The pairs are in the printed order if all sums have the same size.
@@ -23,14 +36,13 @@ pub(crate) fn sorted_pairs(
     alloc: Global,
     table: &States,
     letters: u16,
-) -> Result<Vec<(Partition, Int)>, SumFault>
+) -> Result<Vec<(Partition, Int)>, NoMemory>
     requires letters { letters ≤ 512 }
+    requires exact { AreExact table.now.entries }
     requires reached { weighed letters (unreached letters 4096) table.now.entries ≡ 0 }
     ensures counts { IfOk result (λ pairs. (parts : List ℕ) → coefficient pairs.items parts
         ≡ pos (weighed letters (comes_to parts) table.now.entries)) }
     ensures small { IfOk result (λ pairs. AreSmallTerms pairs.items) }
-    ensures large { IsErrOf result SumFault.Large
-        → IsPastSomewhere letters (λ parts. weighed letters (comes_to parts) table.now.entries) }
 {
     let keys = keys_of(alloc, table, letters)?;
     let mut places = places_of(alloc, table)?;
@@ -113,26 +125,20 @@ fn add_place(
     table: &States,
     at: usize,
     letters: u16,
-) -> Result<(), SumFault>
+) -> Result<(), NoMemory>
     requires letters { letters ≤ 512 }
+    requires exact { AreExact table.now.entries }
     requires reached { weighed letters (unreached letters 4096) table.now.entries ≡ 0 }
     ensures adds { OnOk result ((parts : List ℕ) → coefficient pairs.new.items parts
         ≡ coefficient pairs.old.items parts
         +ℤ pos (count_at letters table.now.entries (comes_to parts) at)) }
     ensures small { OnOk result (AreSmallTerms pairs.old.items → AreSmallTerms pairs.new.items) }
-    ensures large { IsErrOf result SumFault.Large
-        → 2 ^ 127 ≤ (entry_at table.now.entries at).1 }
-    ensures refused { 2 ^ 127 ≤ (entry_at table.now.entries at).1
-        → IsErrOf result SumFault.Large }
 {
     let Some((state, ways)) = table.get(at) else {
         return Ok(());
     };
     if ways == 0 {
         return Ok(());
-    }
-    if ways >= CAP {
-        return Err(SumFault::Large);
     }
     let label = Partition::from_valid_numbers(alloc, &state[..usize::from(letters)])?;
     pairs.push((label, Int::new(ways as i128)))?;

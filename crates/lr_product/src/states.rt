@@ -1,17 +1,31 @@
 //! A list of states of the same length with their counts, in two vectors.
-ghost use Rattle.std.specs.Prelude.{◌≡◌, ℕ, ◌+◌, ◌*◌, ◌^◌, ◌<◌, List, ◌∷◌, [], ◌++◌, min};
-ghost use Rattle.std.specs.Prelude.{length, slice_get, OnOk, IfOk, IsTrue, Some};
+ghost use Rattle.std.specs.Prelude.{◌≡◌, ℕ, ◌+◌, ◌*◌, ◌^◌, ◌<◌, ◌≤◌, List, ◌∷◌, [], ◌++◌, min};
+ghost use Rattle.std.specs.Prelude.{length, pos, slice_get, OnErr, OnOk, IfOk, IsTrue, Some};
 ghost use Rattle.std.specs.Map.{keys_of};
 ghost use Rattle.std.specs.Option.{option_map};
 ghost use Rattle.lr_product.specs.WeighedSum.{at_state, weighed};
 ghost use Rattle.lr_product.specs.Capped.{Agree};
 
-use calc_base::NoMemory;
+use calc_base::{Large, NoMemory};
+use coeff_rings::Int;
 use std::alloc::Global;
 use std::marker::Model;
 
 /// The cap of the counts: a greater count is replaced by this number.
 pub(crate) const CAP: u128 = 1 << 127;
+
+/// The coefficient that is equal to the count; an error if and only if the count is 2^127 or more.
+/// Allocates no memory.
+pub(crate) fn coefficient_of(count: u128) -> Result<Int, Large>
+    ensures value { IfOk result (λ c. c ≡ pos count) }
+    ensures fits { OnOk result (count < 2 ^ 127) }
+    ensures large { OnErr result (2 ^ 127 ≤ count) }
+{
+    if count >= CAP {
+        return Err(Large);
+    }
+    Ok(Int::new(count as i128))
+}
 
 /// States of the same length, each with its count. A state is the sum reached, with one number for
 /// each letter; if one more column or row is to be added, these numbers are followed by the letters

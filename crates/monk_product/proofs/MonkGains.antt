@@ -4,7 +4,7 @@ use Rattle.std.proofs.Common.{◌≡◌, ℕ, ◌+◌, ◌*◌, ◌^◌, ◌≤�
 use Rattle.std.specs.Prelude.{nat_abs, neg_ℤ, nat_eq}
 use Rattle.std.specs.Cmp.Lexicographic.{pointwise, nat_list_eq_equiv}
 use Rattle.std.proofs.lemmas.Bool.{and_parts}
-use Rattle.coeff_rings.specs.Fractions.{whole}
+use Rattle.fraction_laws.specs.Fractions.{whole}
 use Rattle.sym_model.specs.DividedDifference.{variable_in}
 use Rattle.sym_model.specs.LabelLimits.{is_permutation_label}
 use Rattle.sym_model.specs.Permutation.{IsOneLine, covers_up, covers_down}
@@ -18,16 +18,16 @@ use Rattle.sym_model.proofs.Polynomials.{pair_ext, pair_factor, pair_total, pair
 use Rattle.sym_model.proofs.Ring.{product-one}
 use Rattle.sym_model.proofs.Sums.{total_among, total_ext}
 use Rattle.sym_model.proofs.WholeTerms.{pair_of_combined}
-use Rattle.linear_combinations.specs.Labels.{same_partition}
+use Rattle.linear_combinations.proofs.Labels.{same_partition}
 use Rattle.linear_combinations.specs.Gains.{mass_at, scaled, replaced, Gains, Overflows}
 use Rattle.linear_combinations.proofs.Totals.{term-among}
 use Rattle.linear_combinations.proofs.Gains.{replaced_over, scaled_append, mass_at_append, over_only_within, mass_at_within}
 use Rattle.sym_model.proofs.WholeTerms.{labels_append}
 use Rattle.linear_combinations.proofs.Masses.{scaled_each, labels_each, labels_replaced, mass_replaced, mass_at_replaced, labels_gained}
 use Rattle.transition_walk.proofs.Covers.{up_within, down_within}
-use Rattle.transition_walk.proofs.Labels.{label_one_line}
+use Rattle.schubert_laws.proofs.PermutationLabels.{label_one_line}
 use Rattle.monk_product.specs.Monk.{IsPermutationTable, AreShort, over, mass, each_with, monk_terms, over_covers, greatest_length, count_of}
-use Rattle.monk_product.specs.MonkLaws.{over_terms, mass_terms}
+use Rattle.transition_laws.proofs.MonkLaws.{over_terms, mass_terms}
 use Rattle.monk_product.proofs.MonkSteps.{pair_monk}
 use Rattle.monk_product.proofs.OneCover.{one_cover}
 use Rattle.linear_combinations.proofs.Weighed.{gains_mass}

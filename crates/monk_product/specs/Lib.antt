@@ -1,3 +1,2 @@
 pub mod Monk
-pub mod MonkLaws
 pub mod ShortPerms

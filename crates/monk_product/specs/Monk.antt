@@ -1,14 +1,13 @@
--- Lists of permutations with integer coefficients, and Monk's rule on them. A letter of a permutation is *fixed* if it is equal to its place.
-use Rattle.std.specs.Prelude.{ℕ, ◌+◌, ◌≤◌, ℤ, pos, negsuc, ◌-ℤ◌, nat_eq, cond, max, List, [], ◌∷◌}
-use Rattle.std.specs.Prelude.{◌++◌, length}
+-- Lists of permutations with integer coefficients. A letter of a permutation is *fixed* if it is equal to its place.
+use Rattle.std.specs.Prelude.{ℕ, ◌+◌, ◌≤◌, ℤ, nat_eq, cond, max, List, [], ◌∷◌, length}
 use Rattle.std.specs.Cmp.Lexicographic.{pointwise}
-use Rattle.coeff_rings.specs.Fractions.{whole}
-use Rattle.sym_model.specs.Sum.{total, Among}
+use Rattle.fraction_laws.specs.Fractions.{whole}
+use Rattle.sym_model.specs.Sum.{Among}
 use Rattle.sym_model.specs.LabelLimits.{is_permutation_label}
 use Rattle.sym_model.specs.Polynomial.{same}
-use Rattle.sym_model.specs.Permutation.{covers_up, covers_down}
 use Rattle.linear_combinations.specs.Entries.{IsCombination}
 pub use Rattle.linear_combinations.specs.Gains.{over, mass, each_with}
+pub use Rattle.transition_laws.specs.MonkTerms.{monk_terms, over_covers}
 use Rattle.sym_model.specs.WholeTerms.{WholeTerms}
 
 -- each permutation of the list of terms occurs once, and it has at most 255 letters and no fixed letter at the end
@@ -19,14 +18,6 @@ IsPermutationTable terms = IsCombination (pointwise nat_eq) is_permutation_label
 -- each permutation of the list of terms has at most `most` letters
 abbrev pub AreShort : ℕ → WholeTerms → Type 0
 AreShort most terms = (t : List ℕ × ℤ) → Among t terms → length t.0 ≤ most
-
--- the terms of x_r·S_w in Monk's rule: each cover w·t_rj of w with j > r has the coefficient 1, and each cover w·t_ir with i < r the coefficient -1
-abbrev pub monk_terms : ℕ → List ℕ → WholeTerms
-monk_terms r w = each_with (pos 1) (covers_up r w) ++ each_with (negsuc 0) (covers_down r w)
-
--- the sum of φ over the covers w·t_rj with j > r minus its sum over the covers w·t_ir with i < r
-abbrev pub over_covers : ℕ → (List ℕ → ℤ) → List ℕ → ℤ
-over_covers r φ w = total φ (covers_up r w) -ℤ total φ (covers_down r w)
 
 -- the greatest number of letters of a permutation in the list of terms, 0 for the empty list
 abbrev pub greatest_length : WholeTerms → ℕ

@@ -78,7 +78,7 @@ impl Factor<ShortPerm> for TimesVar {
     ghost use Rattle.std.specs.Prelude.{length};
     ghost use Rattle.sym_model.specs.Polynomial.{pair, times};
     ghost use Rattle.sym_model.specs.Schubert.{schubert_in};
-    ghost use Rattle.monk_product.specs.MonkLaws.{monk_start, monk_step, monk_grows_short};
+    ghost use Rattle.transition_laws.proofs.MonkLaws.{monk_start, monk_step, monk_grows_short};
 
     ghost made = { λ r v. record { r = r } };
 

@@ -3,7 +3,6 @@ ghost use Rattle.std.specs.Prelude.{◌≡◌, ◌+◌, ◌<◌, ◌≤◌, [], 
 ghost use Rattle.std.specs.Prelude.{IfOk};
 ghost use Rattle.std.specs.Cmp.{partial_equiv_from_equiv};
 ghost use Rattle.std.specs.Cmp.Lexicographic.{pointwise, nat_list_eq_equiv};
-ghost use Rattle.std.specs.List.{list_any};
 ghost use Rattle.std.specs.Option.{option_to_list};
 ghost use Rattle.std.proofs.Common.{ap};
 ghost use Rattle.std.proofs.lemmas.Slice.Eq.{bytes_eq-Decides};
@@ -12,7 +11,7 @@ ghost use Rattle.monk_product.specs.ShortPerms.{IsFilled};
 
 use calc_base::NoMemory;
 use linear_combinations::Label;
-use perm_codes::Perm;
+use perm_codes::{Perm, has_between};
 use std::alloc::Global;
 use std::cmp::Ordering;
 use std::hash::{Hash, Hasher};
@@ -117,13 +116,6 @@ impl ShortPerm {
     }
 }
 
-/// Whether some letter is greater than `low` and less than `high`.
-fn has_between(letters: &[u8], low: u8, high: u8) -> bool
-    ensures { result ≡ list_any (λ letter. nat_lt low letter && nat_lt letter high) letters.now }
-{
-    letters.iter().any(|letter| low < *letter && *letter < high)
-}
-
 impl PartialEq for ShortPerm {
     ghost eq = { pointwise nat_eq };
 
@@ -153,8 +145,8 @@ impl Label for ShortPerm {
     ghost use Rattle.std.specs.Prelude.{true};
     ghost use Rattle.sym_model.specs.LabelLimits.{is_permutation_label};
     ghost use Rattle.sym_model.specs.PrintedOrder.{permutation_order};
-    ghost use Rattle.linear_combinations.specs.Labels.{same_partition, permutation_order_is_total};
-    ghost use Rattle.linear_combinations.specs.Labels.{permutation_order_equal};
+    ghost use Rattle.linear_combinations.proofs.Labels.{same_partition, permutation_order_is_total};
+    ghost use Rattle.linear_combinations.proofs.Labels.{permutation_order_equal};
 
     ghost is_label = { is_permutation_label };
 

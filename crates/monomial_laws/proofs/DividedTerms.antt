@@ -21,6 +21,7 @@ use Rattle.sym_model.proofs.WholeTerms.{combined_respects, coefficient-combined}
 use Rattle.monomial_laws.proofs.ExpressionTerms.{list-scale}
 use lib.IntN.{+ℤ_idl, +ℤ_idr, *ℤ_comm, *ℤ-zero}
 use Rattle.std.proofs.lemmas.List.{map-append}
+pub use Rattle.independence_laws.proofs.OneList.{divides-denominators}
 
 -- the labels of a list of terms
 abbrev pub labels_of : Terms (List ℕ) → List (List ℕ)
@@ -53,11 +54,6 @@ among_or_not label (t ∷ terms) = by (same_or_not t.0 label) (among_or_not labe
         not_here : Among label (labels_of (t ∷ terms)) → ⊥
         not_here (inl e) = n (sym e)
         not_here (inr m) = none m
-
-pub divides-denominators : (terms : Terms (List ℕ)) (t : List ℕ × Fraction) → Among t terms → t.1.1 ∣ denominators terms
-divides-denominators [] t m = absurd m
-divides-denominators (u ∷ terms) t (inl e) = subst (λ (v : List ℕ × Fraction). v.1.1 ∣ (u.1.1 * denominators terms)) (sym e) (dvd-mul_right u.1.1 (denominators terms))
-divides-denominators (u ∷ terms) t (inr m) = dvd_trans t.1.1 (divides-denominators terms t m) (dvd-mul_left (denominators terms) u.1.1)
 
 -- `terms` is the integer list `whole` divided by D: the coefficient of each term of `terms` is the coefficient of the same label in `whole` divided
 -- by D, and a label that does not occur in `terms` has the coefficient 0 in `whole`. Moreover no label occurs twice in `terms`, and no denominator

@@ -12,3 +12,5 @@ pub mod ExpressionTerms
 pub mod AtomTerms
 pub mod DividedTerms
 pub mod WeightBounds
+pub mod IndependentMonomials
+pub mod ExpressionLaws

@@ -4,6 +4,7 @@ ghost use Rattle.sym_model.specs.BetaList.{beta, less_the_rest};
 ghost use Rattle.sym_model.specs.Partition.{rows};
 ghost use Rattle.partitions.specs.Limits.{IsWithinLimits};
 
+use crate::lists::number_at;
 use smallvec::SmallVec;
 use std::alloc::{AllocError, Global};
 use std::marker::Model;
@@ -51,7 +52,7 @@ pub(crate) fn lengthened(
 {
     let mut entries = SmallVec::with_capacity(alloc, usize::from(k))?;
     for i in 0..k {
-        let part = parts.get(usize::from(i)).copied().unwrap_or(0);
+        let part = number_at(parts, usize::from(i));
         entries.push(part + (k - 1 - i))?;
     }
     Ok(entries)

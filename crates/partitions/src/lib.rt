@@ -1,6 +1,6 @@
 //! Partitions, the labels of symmetric functions; listers of the partitions of a number and of the
 //! arrangements of the parts of a partition; and lists of the factors of a product, which are 2 to
-//! 8 partitions.
+//! 8 partitions. Also a few functions on lists of numbers, such as the parts of a partition.
 //!
 //! What is proved:
 //!
@@ -24,6 +24,7 @@ mod factors;
 mod factors_fault;
 mod fault;
 mod listing;
+mod lists;
 mod partition;
 
 pub use arrangements::Arrangements;
@@ -32,4 +33,5 @@ pub use factors::Factors;
 pub use factors_fault::FactorsFault;
 pub use fault::PartFault;
 pub use listing::PartitionsOf;
+pub use lists::{has_part, number_at, numbers_before_zeros, sum_of_numbers};
 pub use partition::Partition;

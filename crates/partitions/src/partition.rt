@@ -19,6 +19,7 @@ ghost use Rattle.partitions.specs.Limits.{HasCells, IsWithinLimits, RisesFirstAt
 use crate::beta::{lengthened, less_the_later};
 use crate::conjugate::column_lengths;
 use crate::corners::lower_last;
+use crate::lists::{number_at, numbers_before_zeros, sum_of_numbers};
 use crate::{Beta, PartFault};
 use calc_base::{NoMemory, mixed};
 use smallvec::SmallVec;
@@ -80,7 +81,7 @@ impl Partition {
         if let Some(at) = first_rise(parts) {
             return Err(PartFault::Rising { at });
         }
-        let cells = sum_of(parts);
+        let cells = sum_of_numbers(parts);
         if cells > MAX_CELLS {
             return Err(PartFault::TooBig);
         }
@@ -94,7 +95,7 @@ impl Partition {
         ensures ok { IfOk result (λ p. p ≡ parts.now) }
         ensures inline { rows parts.now ≤ 16 → IsOk result }
     {
-        with_cells(alloc, parts, sum_of(parts) as u16)
+        with_cells(alloc, parts, sum_of_numbers(parts) as u16)
     }
 
     /// The partition obtained from the list `numbers` by removing the zeros at its end. The caller
@@ -151,7 +152,7 @@ impl Partition {
     {
         let outer = self.parts();
         for (row, part) in inner.parts().iter().enumerate() {
-            if outer.get(row).copied().unwrap_or(0) < *part {
+            if number_at(outer, row) < *part {
                 return false;
             }
         }
@@ -264,17 +265,6 @@ fn with_cells(alloc: Global, parts: &[u16], cells: u16) -> Result<Partition, NoM
     })
 }
 
-/// The list of numbers without the zeros at its end.
-fn numbers_before_zeros(numbers: &[u16]) -> &[u16]
-    ensures { result.now ≡ without_last_zeros numbers.now }
-{
-    let mut len = numbers.len();
-    while len > 0 && numbers[len - 1] == 0 {
-        len -= 1;
-    }
-    &numbers[..len]
-}
-
 /// The first place, counted from 0, with a number greater than the one before it, if there is one.
 fn first_rise(numbers: &[u16]) -> Option<usize>
     ensures { MatchOption result (Falls numbers.now) (RisesFirstAt numbers.now) }
@@ -285,16 +275,4 @@ fn first_rise(numbers: &[u16]) -> Option<usize>
         }
     }
     None
-}
-
-/// The sum of the numbers.
-fn sum_of(numbers: &[u16]) -> u32
-    requires { length numbers.now ≤ 512 }
-    ensures { result ≡ size numbers.now }
-{
-    let mut sum: u32 = 0;
-    for number in numbers {
-        sum += u32::from(*number);
-    }
-    sum
 }

@@ -138,8 +138,8 @@ fn count_between(letters: &[u8], low: u8, high: u8) -> u16
         .count() as u16
 }
 
-/// Whether some letter is greater than `low` and smaller than `high`.
-fn has_between(letters: &[u8], low: u8, high: u8) -> bool
+/// Whether some letter is greater than `low` and less than `high`.
+pub fn has_between(letters: &[u8], low: u8, high: u8) -> bool
     ensures { result ≡ list_any (λ letter. nat_lt low letter && nat_lt letter high) letters.now }
 {
     letters.iter().any(|letter| low < *letter && *letter < high)

@@ -19,4 +19,5 @@ mod perm;
 pub use calc_base::Word;
 pub use covers::Covers;
 pub use fault::PermFault;
+pub use letters::has_between;
 pub use perm::Perm;

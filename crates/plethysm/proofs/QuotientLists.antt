@@ -3,7 +3,7 @@ use Rattle.std.proofs.Common.{◌≡◌, ℕ, ◌<◌, List, [], ◌∷◌, leng
 use Rattle.std.specs.Int.{◌∣◌}
 use Rattle.std.proofs.Math.Nat.{dvd-mul_right}
 use Rattle.std.proofs.lemmas.Int.{unsigned_abs-mul}
-use Rattle.coeff_rings.specs.Proved.Fractions.{quotient_times}
+use Rattle.fraction_laws.proofs.Fractions.{quotient_times}
 use Rattle.sym_model.specs.Bases.{monomial}
 use Rattle.sym_model.specs.Polynomial.{Poly, Same, coefficient, scale}
 use Rattle.sym_model.specs.Sum.{Among}

@@ -11,3 +11,4 @@ pub mod LinePhrases
 pub mod LineValues
 pub mod LineOffences
 pub mod LineExpressions
+pub mod Labels

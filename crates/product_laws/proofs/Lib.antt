@@ -20,3 +20,4 @@ pub mod Pieri
 pub mod RaisedEntries
 pub mod RimHookSums
 pub mod StripCounts
+pub mod OneReduction

@@ -1,12 +1,13 @@
-//! Products of several factors that are reduced after each factor, by rim hooks or into the alcove.
+//! Products of several factors that are reduced by rim hooks or into the alcove, at the end or after
+//! each factor.
 
-ghost use Rattle.std.specs.Prelude.{◌↔◌, ℕ, ◌≤◌, List, length};
+ghost use Rattle.std.specs.Prelude.{◌≡◌, ◌↔◌, ℕ, ◌≤◌, List, length};
 ghost use Rattle.sym_model.specs.Polynomial.{Same, same};
 ghost use Rattle.sym_model.specs.Expansion.{Terms};
-ghost use Rattle.sym_model.specs.WholeTerms.{WholeTerms, same_power, numerators};
+ghost use Rattle.sym_model.specs.WholeTerms.{WholeTerms, same_power, numerators, coefficient_by};
 ghost use Rattle.sym_model.specs.ReductionSteps.{AreCollected, IsReducedInSteps};
 ghost use Rattle.sym_model.specs.ReductionSteps.{IsReflectedInSteps};
-ghost use Rattle.sym_model.specs.Reductions.{IsRimHookReduction, reflected_terms};
+ghost use Rattle.sym_model.specs.Reductions.{IsRimHookReduction, IsAlcoveReductionOf, reflected_terms};
 ghost use Rattle.sym_model.specs.Products.{classical_product};
 ghost use Rattle.sym_model.specs.Partition.{ArePartitions};
 
@@ -30,4 +31,18 @@ pub fn reductions_in_steps_law()
         → IsReflectedInSteps k n factors terms
         ↔ (AreCollected same terms
         × Same terms (reflected_terms k n (classical_product k factors))) }
+{}
+
+/// The product of the factors in k variables has one reduction by rim hooks of n cells, and one into
+/// the alcove: any two lists that are a reduction of it have the same coefficient at each label.
+pub fn one_reduction_law()
+    ensures rim_hooks { (k n : ℕ) (factors : List (List ℕ)) (first second : Terms (ℕ × List ℕ))
+        → 1 ≤ n → IsRimHookReduction k n (classical_product k factors) first
+        → IsRimHookReduction k n (classical_product k factors) second
+        → (label : ℕ × List ℕ) → coefficient_by same_power (numerators first) label
+        ≡ coefficient_by same_power (numerators second) label }
+    ensures fusion { (k n : ℕ) (factors : List (List ℕ)) (first second : Terms (List ℕ))
+        → IsAlcoveReductionOf k n (classical_product k factors) first
+        → IsAlcoveReductionOf k n (classical_product k factors) second
+        → Same (numerators first) (numerators second) }
 {}

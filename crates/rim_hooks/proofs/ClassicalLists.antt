@@ -21,7 +21,7 @@ use Rattle.sym_model.proofs.Polynomials.{at_only, coefficient_pair, pair_times, 
 use Rattle.alternant_laws.proofs.SchurProducts.{schur_few_variables}
 use Rattle.sym_model.proofs.Orders.{printed_order-total}
 use Rattle.sym_model.proofs.CanonicalLists.{is_ordered-tells, labels-once}
-use Rattle.coeff_rings.specs.Fractions.{whole}
+use Rattle.fraction_laws.specs.Fractions.{whole}
 use Rattle.sparse_polys.specs.Combination.{is_canonical_list as is_canonical_fractions}
 use Rattle.sparse_polys.proofs.ValueLists.{canonical_values}
 use Rattle.beta_list_laws.proofs.ReducedSums.{absolute_within}

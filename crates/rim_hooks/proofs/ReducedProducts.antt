@@ -10,7 +10,7 @@ use Rattle.std.proofs.Common.{◌≡◌, ℕ, zero, suc, ◌+◌, ◌*◌, ◌^�
 use Rattle.std.specs.Prelude.{nat_abs, slice_get}
 use Rattle.std.specs.Cmp.{IsEquivalence}
 use Rattle.std.proofs.lemmas.Bool.{and_parts}
-use Rattle.coeff_rings.specs.Fractions.{whole}
+use Rattle.fraction_laws.specs.Fractions.{whole}
 use Rattle.sym_model.specs.Canonical.{is_reduced, is_label}
 use Rattle.sym_model.specs.PrintedOrder.{printed_order}
 use Rattle.sym_model.proofs.Orders.{is_reduced-tells, is_label-tells}
@@ -31,7 +31,7 @@ use Rattle.linear_combinations.proofs.Gains.{gains_as, overflows_alone, overflow
 use Rattle.linear_combinations.proofs.Masses.{labels_gained, labels_replaced, mass_append, mass_replaced, mass_scaled, overflow_mass}
 use Rattle.linear_combinations.proofs.Totals.{term-among}
 use Rattle.rim_hooks.specs.FactorRows.{AreFew}
-use Rattle.rim_hooks.specs.Reductions.{products, multiplied, HaveRoom, OverflowsWithin}
+use Rattle.reduction_laws.specs.Reductions.{products, multiplied, HaveRoom, OverflowsWithin}
 use Rattle.rim_hooks.proofs.ClassicalLists.{mass_total}
 use native.Mathlib.Nat.{mul-le-mul_left}
 use Rattle.sym_model.proofs.Polynomials.{pair_determined}

@@ -1,7 +1,7 @@
 -- Signs converted between machine integers of 8 and of 128 bits.
 use Rattle.std.proofs.Common.{◌≡◌, inl, inr, refl, sym, ◌∙◌, ap, subst, ℤ, to_z, of_z, w8}
 use Rattle.std.specs.Int.{w128}
-use Rattle.rim_hooks.specs.Collected.{IsSign}
+use Rattle.reduction_laws.specs.Collected.{IsSign}
 
 pub kept_wide : (z : ℤ) → IsSign z → to_z w128 (of_z w128 z) ≡ z
 kept_wide z (inl e) = subst (λ y. to_z w128 (of_z w128 y) ≡ y) (sym e) refl

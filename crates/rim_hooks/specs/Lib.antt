@@ -6,12 +6,5 @@ pub mod Counts
 pub mod Reduced
 pub mod Turns
 pub mod AlcoveOf
-pub mod Collected
-pub mod ReducedLists
 pub mod FactorRows
 pub mod HeavySteps
-pub mod Reductions
-pub mod SignLaws
-pub mod StepLaws
-pub mod QuantumLaws
-pub mod FusionLaws

@@ -1,9 +1,9 @@
 //! Adds terms with signs to a linear combination.
 ghost use Rattle.std.specs.Prelude.{[], ◌∷◌, OnOk, IsErrOf};
-ghost use Rattle.coeff_rings.specs.Fractions.{whole};
+ghost use Rattle.fraction_laws.specs.Fractions.{whole};
 ghost use Rattle.linear_combinations.specs.Entries.{IsCombination};
 ghost use Rattle.linear_combinations.specs.Gains.{Gains, Overflows, scaled};
-ghost use Rattle.rim_hooks.specs.Collected.{IsSign};
+ghost use Rattle.reduction_laws.specs.Collected.{IsSign};
 
 use calc_base::SumFault;
 use coeff_rings::{Int, Ring};

@@ -29,10 +29,10 @@ impl Reduction<Partition> for Reflections {
     ghost use Rattle.std.specs.Prelude.{◌<◌, ◌≤◌};
     ghost use Rattle.sym_model.specs.Partition.{size};
     ghost use Rattle.sym_model.specs.ReductionSteps.{IsFusionStep};
-    ghost use Rattle.rim_hooks.specs.ReducedLists.{reduced_shape};
-    ghost use Rattle.rim_hooks.specs.QuantumLaws.{rule_bounds};
-    ghost use Rattle.rim_hooks.specs.FusionLaws.{start_shape, shape_within, shape_light};
-    ghost use Rattle.rim_hooks.specs.FusionLaws.{shape_room, shape_made, shape_other};
+    ghost use Rattle.reduction_laws.specs.ReducedLists.{reduced_shape};
+    ghost use Rattle.reduction_laws.proofs.QuantumLaws.{rule_bounds};
+    ghost use Rattle.reduction_laws.proofs.FusionLaws.{start_shape, shape_within, shape_light};
+    ghost use Rattle.reduction_laws.proofs.FusionLaws.{shape_room, shape_made, shape_other};
 
     ghost is_rule = { λ rule. (1 ≤ rule.k) × (rule.k ≤ 64) × (rule.k < rule.n) × (rule.n ≤ 512) };
 

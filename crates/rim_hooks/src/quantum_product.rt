@@ -32,9 +32,9 @@ impl Reduction<Power> for RimHooks {
     ghost use Rattle.std.specs.Prelude.{◌+◌, ◌<◌, ◌≤◌};
     ghost use Rattle.sym_model.specs.Partition.{size};
     ghost use Rattle.sym_model.specs.ReductionSteps.{shape_of, IsQuantumStep};
-    ghost use Rattle.rim_hooks.specs.ReducedLists.{reduced_power};
-    ghost use Rattle.rim_hooks.specs.QuantumLaws.{rule_bounds, start_power, power_within};
-    ghost use Rattle.rim_hooks.specs.QuantumLaws.{power_light, power_room, power_made, power_other};
+    ghost use Rattle.reduction_laws.specs.ReducedLists.{reduced_power};
+    ghost use Rattle.reduction_laws.proofs.QuantumLaws.{rule_bounds, start_power, power_within};
+    ghost use Rattle.reduction_laws.proofs.QuantumLaws.{power_light, power_room, power_made, power_other};
 
     ghost is_rule = { λ rule. (1 ≤ rule.k) × (rule.k ≤ 64) × (rule.k < rule.n) × (rule.n ≤ 512) };
 

@@ -1,10 +1,10 @@
 //! The trait of the reductions that can be applied to a product after each factor.
 ghost use Rattle.std.specs.Prelude.{◌≡◌, ℕ, ◌+◌, ◌≤◌, ℤ, ◌*ℤ◌, List, [], IfOk, OnOk, IsErrOf};
-ghost use Rattle.coeff_rings.specs.Fractions.{whole};
+ghost use Rattle.fraction_laws.specs.Fractions.{whole};
 ghost use Rattle.sym_model.specs.Partition.{IsPartition, rows, size};
 ghost use Rattle.linear_combinations.specs.Entries.{IsCombination};
 ghost use Rattle.linear_combinations.specs.Gains.{HaveLabels, Gains, Overflows, mass, over, scaled};
-ghost use Rattle.rim_hooks.specs.Reductions.{multiplied};
+ghost use Rattle.reduction_laws.specs.Reductions.{multiplied};
 
 use calc_base::{NoMemory, SumFault};
 use coeff_rings::Int;

@@ -1,7 +1,7 @@
 //! Products computed by multiplying by one factor after another and reducing after each factor.
 ghost use Rattle.std.specs.Prelude.{◌≡◌, ◌+◌, ◌*◌, ◌^◌, ◌<◌, ◌≤◌, [], ◌∷◌, nat_abs, length};
 ghost use Rattle.std.specs.Prelude.{slice_get, Some, IfOk, OnOk, IsErrOf};
-ghost use Rattle.coeff_rings.specs.Fractions.{whole};
+ghost use Rattle.fraction_laws.specs.Fractions.{whole};
 ghost use Rattle.partitions.specs.FactorList.{AreFactors};
 ghost use Rattle.sym_model.specs.Canonical.{is_label};
 ghost use Rattle.sym_model.specs.Partition.{rows, size};
@@ -10,8 +10,8 @@ ghost use Rattle.sym_model.specs.ReductionSteps.{LeadsTo, classical_weight, step
 ghost use Rattle.linear_combinations.specs.Entries.{IsCanonicalList, IsCombination};
 ghost use Rattle.linear_combinations.specs.Gains.{HaveLabels, Gains, Overflows, replaced, scaled};
 ghost use Rattle.rim_hooks.specs.FactorRows.{AreFew};
-ghost use Rattle.rim_hooks.specs.Reductions.{products, multiplied, HaveRoom, IsHeavyFrom};
-ghost use Rattle.rim_hooks.specs.Reductions.{OverflowsWithin};
+ghost use Rattle.reduction_laws.specs.Reductions.{products, multiplied, HaveRoom, IsHeavyFrom};
+ghost use Rattle.reduction_laws.specs.Reductions.{OverflowsWithin};
 
 use crate::reduction::Reduction;
 use calc_base::SumFault;

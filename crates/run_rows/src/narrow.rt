@@ -1,4 +1,7 @@
 //! A reader and a writer that handle one byte at a time and fail at chosen calls.
+ghost use Rattle.std.specs.Prelude.{refl};
+
+use calc_base::{SteadyRead, SteadyWrite};
 use std::io;
 use std::io::{ErrorKind, Read, Write};
 
@@ -28,6 +31,10 @@ impl Read for NarrowReader {
         buf[0] = if self.reads == 1 { b'b' } else { b'd' };
         Ok(1)
     }
+}
+
+impl SteadyRead for NarrowReader {
+    ghost steady = { λ a b. refl };
 }
 
 /// A writer that takes one byte at each write, except that the fifth write fails and the seventh
@@ -78,4 +85,8 @@ impl Write for NarrowWriter {
         }
         Ok(())
     }
+}
+
+impl SteadyWrite for NarrowWriter {
+    ghost steady = { λ a b. refl };
 }

@@ -2,9 +2,8 @@
 -- whose exponents are the code.
 use Rattle.std.proofs.Common.{◌≡◌, ℕ, zero, suc, ◌+◌, ◌<◌, ◌≤◌, List, [], ◌∷◌, length, refl, sym, ◌∙◌, ap, ap₂, subst, arith, inl, inr, ◌⊎◌, cond, nat_lt, None, ℤ, rules}
 use Rattle.std.proofs.lemmas.Bool.{cases_eq, cases_lt, lt-ltb, ltb-true, ltb-false, cond_below}
-use lib.IntN.{+ℤ_idr}
 use Rattle.sym_model.specs.Sum.{Among, Once}
-use Rattle.sym_model.specs.Polynomial.{Same, pair, coefficient}
+use Rattle.sym_model.specs.Polynomial.{Same, coefficient}
 use Rattle.sym_model.specs.Partition.{Falls}
 use Rattle.sym_model.specs.PlaceOrders.{smaller}
 use Rattle.sym_model.specs.Alternant.{staircase}
@@ -12,18 +11,15 @@ use Rattle.sym_model.specs.BetaList.{rising_pairs}
 use Rattle.sym_model.specs.Permutation.{code, first_ascent}
 use Rattle.sym_model.specs.DividedDifference.{x_to, differences_after}
 use Rattle.sym_model.specs.Schubert.{schubert, schubert_over}
-use Rattle.sym_model.proofs.Ring.{one-product}
 use Rattle.sym_model.proofs.SortedParts.{Falls_tail}
 use Rattle.sym_model.proofs.Polynomials.{same_from_pair}
 use Rattle.sym_model.proofs.Numbers.{counts-not_less}
+pub use Rattle.independence_laws.proofs.IndependentPowers.{pair_x_to}
 use Rattle.schubert_laws.proofs.Differences.{along, pair_differences}
 use Rattle.schubert_laws.proofs.Exchanges.{exchange_at, Rises, IsFirstAscent, first_ascent_cases, rising_pairs_exchange, length-exchange_at}
 use Rattle.schubert_laws.proofs.DifferenceLaws.{differences_respect}
 use Rattle.schubert_laws.proofs.Paths.{over_top, over_first}
 use Rattle.std.proofs.Math.Arith.{lt_of_le-ne}
-
-pub pair_x_to : (α : List ℕ) (φ : List ℕ → ℤ) → pair (x_to α) φ ≡ φ α
-pair_x_to α φ = +ℤ_idr _ ∙ one-product (φ α)
 
 pub smaller_exchange : (x k : ℕ) (w : List ℕ) → smaller x (exchange_at k w) ≡ smaller x w
 smaller_exchange x zero [] = refl

@@ -2,7 +2,7 @@
 --     exchange_at k w     w with the entries at the places k and k + 1 exchanged; it is `exchanged (k + 1) w`
 --     raise k α           α with 1 added to the entry at place k: the exponents of x^α times a variable
 --     `Rises k w`         the entry of w at place k is smaller than the next one
-use Rattle.std.proofs.Common.{◌≡◌, ℕ, zero, suc, ◌+◌, ◌-◌, ◌<◌, List, [], ◌∷◌, ◌++◌, length, replicate, set, get_or, refl, ap, ap₂, arith, inr, ◌⊎◌, cond, nat_lt, Some, None, rules}
+use Rattle.std.proofs.Common.{◌≡◌, ℕ, zero, suc, ◌+◌, ◌<◌, List, [], ◌∷◌, ◌++◌, length, replicate, set, get_or, refl, ap, ap₂, arith, inr, ◌⊎◌, cond, nat_lt, Some, None, rules}
 use Rattle.std.specs.List.{swap}
 use Rattle.std.proofs.lemmas.Bool.{ltb-true, ltb-false}
 use Rattle.sym_model.specs.Polynomial.{join}

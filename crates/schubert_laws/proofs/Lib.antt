@@ -20,3 +20,16 @@ pub mod LowerPermutations
 pub mod Codes
 pub mod Ranks
 pub mod Members
+pub mod PermutationLabels
+pub mod Blocks
+pub mod SchubertDuals
+pub mod IndependentSchuberts
+pub mod CoverRelations
+pub mod CoverTests
+pub mod ChainSums
+pub mod Pieri
+pub mod ChainLetters
+pub mod DualMonk
+pub mod LeftSteps
+pub mod AtOrigin
+pub mod DualMonkFromOne

@@ -98,7 +98,7 @@ earlier y q top r l t = by (last_descent y) refl
 rises_of_swap : (w : List ℕ) (p q b : ℕ) → IsStep w q b → p < q → RisesFrom q (swap_at p q (swap_at q b w))
 rises_of_swap w p q b s h c i l = search (rules, length-swap_at, swap_at, get_swap_other, still_rises)
 
-lowered_cover : (w : List ℕ) (p q b : ℕ) → IsOneLine w → IsStep w q b → last_descent w ≡ Some (suc q) → p < q
+pub lowered_cover : (w : List ℕ) (p q b : ℕ) → IsOneLine w → IsStep w q b → last_descent w ≡ Some (suc q) → p < q
     → inversions (kept (swap_at p q (swap_at q b w))) ≡ inversions (swap_at q b w) + 1 → IsLower (kept (swap_at p q (swap_at q b w))) w
 lowered_cover w p q b o s d h e =
     let order = s.order in
@@ -227,7 +227,7 @@ smaller_of_none a (b ∷ w) h =
     let e = smaller_of_none a w (λ x i. h x (inr i)) in
     omega arith
 
-abbrev NeverFalls : List ℕ → Type 0
+abbrev pub NeverFalls : List ℕ → Type 0
 NeverFalls w = (b : ℕ) → suc b < length w → get_or w b 0 ≤ get_or w (suc b) 0
 
 first_least : (a : ℕ) (w : List ℕ) → NeverFalls (a ∷ w) → (b : ℕ) → Among b w → a ≤ b

@@ -52,7 +52,7 @@ swap_at_append (suc a) (suc b) (x ∷ w) z h l = ap (λ v. x ∷ v) (swap_at_app
 pub one_line_swap : (a b : ℕ) (w : List ℕ) → a < length w → b < length w → IsOneLine w → IsOneLine (swap_at a b w)
 one_line_swap a b w h l o = search (rules, among_swap, length-swap_at, once_swap)
 
-sum_after : (n a : ℕ) (f : ℕ → ℤ) → sum_below n (λ b. f (a + b)) ≡ total (λ i. f (i - 1)) (after a n)
+pub sum_after : (n a : ℕ) (f : ℕ → ℤ) → sum_below n (λ b. f (a + b)) ≡ total (λ i. f (i - 1)) (after a n)
 sum_after zero a f = refl
 sum_after (suc n) a f = search (rules, sum_below_ext, (sum_after n (a + 1) f))
 
@@ -103,7 +103,7 @@ longer_split w k m h =
 pub swap_added : (u : List ℕ) (t a b : ℕ) → a < length u → b < length u → swap_at a b (u ++ after (length u) t) ≡ swap_at a b u ++ after (length (swap_at a b u)) t
 swap_added u t a b h l = swap_at_append a b u (after (length u) t) h l ∙ ap (λ n. swap_at a b u ++ after n t) (sym (length-swap_at a b u))
 
-pair_within : (n : ℕ) (φ : List ℕ → ℤ) (a b : ℕ) (long : List ℕ) → pair (schubert_over (top_of long) (swap_at a b long)) (restricted_test n φ) ≡ pair (schubert_in (swap_at a b long) n) φ
+pub pair_within : (n : ℕ) (φ : List ℕ → ℤ) (a b : ℕ) (long : List ℕ) → pair (schubert_over (top_of long) (swap_at a b long)) (restricted_test n φ) ≡ pair (schubert_in (swap_at a b long) n) φ
 pair_within n φ a b long = ap (λ f. pair f (restricted_test n φ)) (over_swap a b long) ∙ sym (pair_restrict n (schubert (swap_at a b long)) φ)
 
 -- let u' be u with t fixed letters added at its end, and let v be u with the letters at a and b swapped and the fixed letters at the end dropped. If
@@ -129,7 +129,7 @@ cover_term n φ w k i j o c h l =
 pub whole_longer : (w : List ℕ) (k : ℕ) → longer w k ≡ (w ++ after (length w) k) ++ ((length (w ++ after (length w) k) + 1) ∷ [])
 whole_longer w k = search (rules, length-append, length_after, after-append, append_assoc)
 
-monk_longer : (w : List ℕ) (k q : ℕ) → IsOneLine w → q < length w + k → IsMonk (top_of (longer w k)) no_factors (longer w k) q
+pub monk_longer : (w : List ℕ) (k q : ℕ) → IsOneLine w → q < length w + k → IsMonk (top_of (longer w k)) no_factors (longer w k) q
 monk_longer w k q o h = search (rules, one_line_added, length-append, length_after, no_factors, whole_longer, monk_last, below_next)
 
 -- the pairing of φ with the sum of S_v over those lists v = f(j) that have one inversion more than w is the sum of `cover_value` over all j
@@ -137,7 +137,7 @@ pub pair_covers : (n : ℕ) (φ : List ℕ → ℤ) (w : List ℕ) (f : ℕ → 
     → pair (schuberts_in (covers_among w (map f js)) n) φ ≡ total (λ j. cover_value n φ w (f j)) js
 pair_covers n φ w f js = search (rules, pair_each, total_select, total_map)
 
-pair_left : (n : ℕ) (φ : List ℕ → ℤ) (w : List ℕ) (k q : ℕ) → IsOneLine w
+pub pair_left : (n : ℕ) (φ : List ℕ → ℤ) (w : List ℕ) (k q : ℕ) → IsOneLine w
     → pair (times (variable_in (suc q) n) (schubert_in w n)) φ ≡ pair (times (plus (variable_after q) nothing) (schubert (longer w k))) (restricted_test n φ)
 pair_left n φ w k q o =
     pair_determined (times (variable_in (suc q) n) (schubert_in w n)) (times (variable_in (suc q) n) (schubert_in (longer w k) n)) φ

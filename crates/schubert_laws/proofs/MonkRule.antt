@@ -139,7 +139,7 @@ falls_raised (suc (suc n)) zero h = (omega arith, falls_staircase (suc n))
 falls_raised (suc (suc n)) (suc zero) h = (omega arith, falls_raised (suc n) zero (omega arith))
 falls_raised (suc (suc n)) (suc (suc r)) h = (omega arith, falls_raised (suc n) (suc r) (omega arith))
 
-falling_pair : (v : List ℕ) (i j d : ℕ) → Once v → HasNoAscent v → i < j → j < length v → get_or v j d < get_or v i d
+pub falling_pair : (v : List ℕ) (i j d : ℕ) → Once v → HasNoAscent v → i < j → j < length v → get_or v j d < get_or v i d
 falling_pair [] i j d o n h l = absurd (omega arith)
 falling_pair (a ∷ v) i zero d o n h l = absurd (omega arith)
 falling_pair (a ∷ v) zero (suc j) d o n h l = greater_head a v o n (get_or v j d) (among_get j d v (omega arith))

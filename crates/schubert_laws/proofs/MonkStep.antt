@@ -49,7 +49,7 @@ jump_second φ a b =
     let s = across_stepped (λ c d. climb φ c (suc d)) a b in
     omega (arith, ints)
 
-along_raise : (k r : ℕ) (φ : List ℕ → ℤ) (α : List ℕ) → suc k < length α → along k (λ γ. φ (raise r γ)) α ≡ along k φ (raise (moved k r) α) +ℤ jump k r (φ α)
+pub along_raise : (k r : ℕ) (φ : List ℕ → ℤ) (α : List ℕ) → suc k < length α → along k (λ γ. φ (raise r γ)) α ≡ along k φ (raise (moved k r) α) +ℤ jump k r (φ α)
 along_raise k r φ [] h = absurd (omega arith)
 along_raise zero r φ (a ∷ []) h = absurd (omega arith)
 along_raise zero zero φ (a ∷ b ∷ α) h = jump_first (λ c d. φ (c ∷ d ∷ α)) a b
@@ -58,7 +58,7 @@ along_raise zero (suc (suc r)) φ (a ∷ b ∷ α) h = sym (+ℤ_idr _)
 along_raise (suc k) zero φ (a ∷ α) h = sym (+ℤ_idr _)
 along_raise (suc k) (suc r) φ (a ∷ α) h = along_raise k r (λ γ. φ (a ∷ γ)) α (omega arith)
 
-pair_jump : (k r : ℕ) (f : Poly) (φ : List ℕ → ℤ) → pair f (λ α. jump k r (φ α)) ≡ jump k r (pair f φ)
+pub pair_jump : (k r : ℕ) (f : Poly) (φ : List ℕ → ℤ) → pair f (λ α. jump k r (φ α)) ≡ jump k r (pair f φ)
 pair_jump zero zero f φ = refl
 pair_jump zero (suc zero) f φ = pair_opposite f φ
 pair_jump zero (suc (suc r)) f φ = pair_zero f
@@ -123,7 +123,7 @@ covered_none g φ w a b n = ap (λ t. cond t (pair (schubert_over g (swap_at a b
 pub covered_is : (g : Poly) (φ : List ℕ → ℤ) (w : List ℕ) (a b : ℕ) → rising_pairs w ≡ suc (rising_pairs (swap_at a b w)) → covered g φ w a b ≡ pair (schubert_over g (swap_at a b w)) φ
 covered_is g φ w a b e = ap (λ t. cond t (pair (schubert_over g (swap_at a b w)) φ) (pos 0)) (eq-eqb (rising_pairs w) (suc (rising_pairs (swap_at a b w))) e)
 
-rises_or : (k : ℕ) (w : List ℕ) → suc k < length w → Once w → Rises k w ⊎ Rises k (exchange_at k w)
+pub rises_or : (k : ℕ) (w : List ℕ) → suc k < length w → Once w → Rises k w ⊎ Rises k (exchange_at k w)
 rises_or k [] h o = absurd (omega arith)
 rises_or zero (a ∷ []) h o = absurd (omega arith)
 rises_or zero (a ∷ b ∷ w) h o = elim (cases_lt a b) [ inl l ↦ inl l | inr l ↦ inr (lt_of_le-ne l (λ e. o.0 (inl (sym e)))) ]
@@ -222,7 +222,7 @@ covered_back g φ k u r =
 -- `jump k r z` if b is `moved k r`, the place to which r moves if the places k and k + 1 are exchanged; 0 otherwise. With z the pairing of φ with the
 -- polynomial of v, this number is `value g φ u r b` minus `value g (along k φ) v (moved k r) (moved k b)`; here v is u with its increasing entries at
 -- k and k + 1 exchanged
-abbrev correction : ℕ → ℕ → ℤ → ℕ → ℤ
+abbrev pub correction : ℕ → ℕ → ℤ → ℕ → ℤ
 correction k r z b = cond (b == moved k r) (jump k r z) (pos 0)
 
 correction_there : (k r : ℕ) (z : ℤ) (b : ℕ) → b ≡ moved k r → correction k r z b ≡ jump k r z
@@ -231,7 +231,7 @@ correction_there k r z b e = ap (λ t. cond t (jump k r z) (pos 0)) (eq-eqb b (m
 correction_elsewhere : (k r : ℕ) (z : ℤ) (b : ℕ) → (b ≡ moved k r → ⊥) → correction k r z b ≡ pos 0
 correction_elsewhere k r z b e = ap (λ t. cond t (jump k r z) (pos 0)) (ne_eqb b (moved k r) e)
 
-abbrev IsCorrected : Poly → (List ℕ → ℤ) → ℕ → List ℕ → ℕ → ℕ → Type 0
+abbrev pub IsCorrected : Poly → (List ℕ → ℤ) → ℕ → List ℕ → ℕ → ℕ → Type 0
 IsCorrected g φ k u r b = value g φ u r b ≡ value g (along k φ) (exchange_at k u) (moved k r) (moved k b) +ℤ correction k r (pair (schubert_over g (exchange_at k u)) φ) b
 
 corrected_up : (g : Poly) (φ : List ℕ → ℤ) (k : ℕ) (u : List ℕ) → Rises k u → IsCorrected g φ k u k (suc k)
@@ -242,7 +242,7 @@ corrected_down : (g : Poly) (φ : List ℕ → ℤ) (k : ℕ) (u : List ℕ) →
 corrected_down g φ k u s =
     search (rules, exchange_at, signed_down, covered_sym, covered_pair, along, moved_after, moved_at, signed_up, covered_back, correction_there, jump_after, ints)
 
-value_corrected : (g : Poly) (φ : List ℕ → ℤ) (k r b : ℕ) (u : List ℕ) → Once u → Rises k u → r < length u → b < length u → IsCorrected g φ k u r b
+pub value_corrected : (g : Poly) (φ : List ℕ → ℤ) (k r b : ℕ) (u : List ℕ) → Once u → Rises k u → r < length u → b < length u → IsCorrected g φ k u r b
 value_corrected g φ k r b u o s h l = by (cases_eq r k) (cases_eq r (suc k)) (cases_eq b (moved k r))
   where
     rest : (r ≡ k → b ≡ suc k → ⊥) → (b ≡ k → r ≡ suc k → ⊥) → correction k r (pair (schubert_over g (exchange_at k u)) φ) b ≡ pos 0 → IsCorrected g φ k u r b
@@ -264,7 +264,7 @@ value_corrected g φ k r b u o s h l = by (cases_eq r k) (cases_eq r (suc k)) (c
     by (inr n) (inr q) (inr m) =
         rest (λ e f. n e) (λ e f. q f) (correction_elsewhere k r (pair (schubert_over g (exchange_at k u)) φ) b m)
 
-sum_correction : (n k r : ℕ) (z : ℤ) → suc k < n → r < n → sum_below n (correction k r z) ≡ jump k r z
+pub sum_correction : (n k r : ℕ) (z : ℤ) → suc k < n → r < n → sum_below n (correction k r z) ≡ jump k r z
 sum_correction n k r z h l =
     sum_below_only n (moved k r) (correction k r z) (moved_within k r n h l) (λ b m d. correction_elsewhere k r z b d)
     ∙ correction_there k r z (moved k r) refl

@@ -1,5 +1,5 @@
 -- Every path of divided differences gives the same Schubert polynomial: with places counted from 1, as `path_law` states it.
-use Rattle.std.proofs.Common.{ℕ, ◌+◌, ◌-◌, ◌<◌, List, [], ◌∷◌, ◌++◌, length, arith, rules}
+use Rattle.std.proofs.Common.{ℕ, ◌+◌, ◌<◌, List, [], ◌∷◌, ◌++◌, length, arith, rules}
 use Rattle.std.proofs.lemmas.List.Edits.{length-swap}
 use Rattle.sym_model.specs.DividedDifference.{divided_difference}
 use Rattle.sym_model.specs.Sum.{Among}

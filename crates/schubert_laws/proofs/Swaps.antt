@@ -100,7 +100,7 @@ swap_neighbour zero (x ∷ []) h = absurd (omega arith)
 swap_neighbour zero (x ∷ y ∷ w) h = refl
 swap_neighbour (suc k) (x ∷ w) h = ap (λ v. x ∷ v) (swap_neighbour k w (omega arith))
 
-greater_set : (a b x : ℕ) (w : List ℕ) → cond (nat_lt a (get_or w b x)) 1 0 + greater a (set w b x) ≡ cond (nat_lt a x) 1 0 + greater a w
+pub greater_set : (a b x : ℕ) (w : List ℕ) → cond (nat_lt a (get_or w b x)) 1 0 + greater a (set w b x) ≡ cond (nat_lt a x) 1 0 + greater a w
 greater_set a b x [] = refl
 greater_set a zero x (y ∷ w) = omega arith
 greater_set a (suc b) x (y ∷ w) = let e = greater_set a b x w in omega arith

@@ -184,18 +184,37 @@ pub record IsStep (w : List ℕ) (q b : ℕ) : Type 0 where
   pub rises : RisesFrom q w
   pub later : (c : ℕ) → b < c → c < length w → get_or w q 0 ≤ get_or w c 0
 
--- if q and b are the places of the transition rule for w, then the list w·t_qb, which is w with the letters at q and b swapped, has one inversion
--- less than w
-pub one_fewer : (w : List ℕ) (q b : ℕ) → IsOneLine w → IsStep w q b → inversions w ≡ inversions (swap_at q b w) + 1
-one_fewer w q b o s =
+-- the letter at q is greater than the one at b, and no letter after q, at a place before b or after it, is between the two letters in value
+pub record IsNearest (w : List ℕ) (q b : ℕ) : Type 0 where
+  pub order : q < b
+  pub inside : b < length w
+  pub falls : get_or w b 0 < get_or w q 0
+  pub earlier : (c : ℕ) → q < c → c < b → get_or w c 0 ≤ get_or w b 0
+  pub later : (c : ℕ) → b < c → c < length w → get_or w q 0 ≤ get_or w c 0
+
+pub step_nearest : (w : List ℕ) (q b : ℕ) → IsStep w q b → IsNearest w q b
+step_nearest w q b s = record {
+  order = s.order;
+  inside = s.inside;
+  falls = s.falls;
+  earlier = λ c h l. rises_chain q c b w s.rises h (omega arith) s.inside;
+  later = s.later;
+}
+
+-- if q and b are such places, then the list w·t_qb, which is w with the letters at q and b swapped, has one inversion less than w
+pub one_fewer_nearest : (w : List ℕ) (q b : ℕ) → IsOneLine w → IsNearest w q b → inversions w ≡ inversions (swap_at q b w) + 1
+one_fewer_nearest w q b o s =
     let order = s.order in
     let inside = s.inside in
     one_more_inversion (swap_at q b w) w (once_swap q b w (omega arith) inside o.once) o.once (sym (length-swap_at q b w))
-    (raises_by_one q b 0 w order inside s.falls (λ c h l. strict_get w c b o.once (omega arith) inside (λ z. omega arith) (rises_chain q c b w s.rises h (omega arith) inside)))
+    (raises_by_one q b 0 w order inside s.falls (λ c h l. strict_get w c b o.once (omega arith) inside (λ z. omega arith) (s.earlier c h l)))
 
--- let q and b be the places of the transition rule for w, and let u be w·t_qb with a fixed letter added at its end. If c is a place after q other
--- than b, then swapping the letters at q and c in u does not give a cover of u
-pub no_other : (w : List ℕ) (q b c : ℕ) → IsOneLine w → IsStep w q b → q < c → c ≤ length w → (c ≡ b → ⊥)
+pub one_fewer : (w : List ℕ) (q b : ℕ) → IsOneLine w → IsStep w q b → inversions w ≡ inversions (swap_at q b w) + 1
+one_fewer w q b o s = one_fewer_nearest w q b o (step_nearest w q b s)
+
+-- let q and b be such places, and let u be w·t_qb with a fixed letter added at its end. If c is a place after q other than b, then swapping the letters
+-- at q and c in u does not give a cover of u
+pub no_other : (w : List ℕ) (q b c : ℕ) → IsOneLine w → IsNearest w q b → q < c → c ≤ length w → (c ≡ b → ⊥)
     → rising_pairs (longer (swap_at q b w) 0) ≡ suc (rising_pairs (swap_at q c (longer (swap_at q b w) 0))) → ⊥
 no_other w q b c o s h l n e =
     let u : List ℕ = swap_at q b w in
@@ -214,7 +233,7 @@ no_other w q b c o s h l n e =
       | inl f ↦
           let lc = old c (omega arith) in
           let uc = get_swap_other q b c 0 w (λ z. omega arith) n in
-          let x = strict_get w c b o.once (omega arith) inside n (rises_chain q c b w s.rises h (omega arith) inside) in
+          let x = strict_get w c b o.once (omega arith) inside n (s.earlier c h f) in
           let r = raises q c 0 (longer (swap_at q b w) 0) h (omega arith) (omega arith) in
           omega arith
       | inr f ↦ elim (cases_lt c (length w)) [
@@ -234,7 +253,7 @@ no_other w q b c o s h l n e =
 pub swap_there : (w : List ℕ) (q b : ℕ) → q < b → b < length w → times_swap (suc q) (suc b) (swap_at q b w) ≡ kept w
 swap_there w q b h l = search (rules, length-swap_at, swap_at, append-nil, swap_is, swap_twice)
 
-pair_up : (n : ℕ) (φ : List ℕ → ℤ) (w : List ℕ) (q b : ℕ) → IsOneLine w → IsStep w q b → pair (schuberts_in (covers_up (suc q) (swap_at q b w)) n) φ ≡ pair (schubert_in w n) φ
+pair_up : (n : ℕ) (φ : List ℕ → ℤ) (w : List ℕ) (q b : ℕ) → IsOneLine w → IsNearest w q b → pair (schuberts_in (covers_up (suc q) (swap_at q b w)) n) φ ≡ pair (schubert_in w n) φ
 pair_up n φ w q b o s =
     let order = s.order in
     let inside = s.inside in
@@ -250,7 +269,7 @@ pair_up n φ w q b o s =
     ∙ pair_determined (schubert_in (kept w) n) (schubert_in w n) φ (schubert_kept w n o)
   where
     covers : inversions (kept w) ≡ inversions (swap_at q b w) + 1
-    covers = inversions_kept w o ∙ one_fewer w q b o s
+    covers = inversions_kept w o ∙ one_fewer_nearest w q b o s
 
     others : (j : ℕ) → IsOneLine (swap_at q b w) → (suc q < j) × (j ≤ suc q + (max (length (swap_at q b w)) (suc q) + 1 - suc q)) → length (swap_at q b w) ≡ length w → (j ≡ suc b → ⊥)
         → cover_value n φ (swap_at q b w) (times_swap (suc q) j (swap_at q b w)) ≡ pos 0
@@ -265,9 +284,10 @@ pair_up n φ w q b o s =
         ∙ covered_none (top_of (longer (swap_at q b w) 0)) (restricted_test n φ) (longer (swap_at q b w) 0) q (j - 1)
         (no_other w q b (j - 1) o s (omega arith) (omega arith) (λ z. d (omega arith)))
 
-pub transition_at : (n : ℕ) (w : List ℕ) (q b : ℕ) → IsOneLine w → IsStep w q b
+-- the recursion of the transition rule holds for these places too
+pub transition_nearest : (n : ℕ) (w : List ℕ) (q b : ℕ) → IsOneLine w → IsNearest w q b
     → Same (schubert_in w n) (plus (times (variable_in (suc q) n) (schubert_in (swap_at q b w) n)) (schuberts_in (covers_down (suc q) (swap_at q b w)) n))
-transition_at n w q b o s =
+transition_nearest n w q b o s =
     same_from_pair (schubert_in w n) (plus (times (variable_in (suc q) n) (schubert_in (swap_at q b w) n)) (schuberts_in (covers_down (suc q) (swap_at q b w)) n)) (λ φ.
     let order = s.order in
     let inside = s.inside in
@@ -279,3 +299,7 @@ transition_at n w q b o s =
     let u = pair_up n φ w q b o s in
     let t = pair_plus (times (variable_in (suc q) n) (schubert_in (swap_at q b w) n)) (schuberts_in (covers_down (suc q) (swap_at q b w)) n) φ in
     omega (arith, ints))
+
+pub transition_at : (n : ℕ) (w : List ℕ) (q b : ℕ) → IsOneLine w → IsStep w q b
+    → Same (schubert_in w n) (plus (times (variable_in (suc q) n) (schubert_in (swap_at q b w) n)) (schuberts_in (covers_down (suc q) (swap_at q b w)) n))
+transition_at n w q b o s = transition_nearest n w q b o (step_nearest w q b s)

@@ -1,1 +1,4 @@
 pub mod TransitionOrder
+pub mod ShortPermutations
+pub mod Chains
+pub mod PathCovers

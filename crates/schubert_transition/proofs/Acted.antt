@@ -10,7 +10,7 @@ use Rattle.sym_model.proofs.Sums.{total_not_negative}
 use Rattle.sym_model.proofs.Exponents.{same_true, same_refl, join_zeros, resize-nil, fits_in_length}
 use Rattle.sym_model.proofs.Polynomials.{pair_in, at_only, In_restrict, at_only-nonnegative}
 use Rattle.sym_model.proofs.Integers.{cond-nonnegative}
-use Rattle.schubert_transition.specs.Acted.{acted}
+use Rattle.transition_laws.specs.Acted.{acted}
 use Rattle.transition_walk.proofs.Monomials.{HasMonomials}
 use Rattle.sym_model.proofs.PolynomialLaws.{restricted_test}
 

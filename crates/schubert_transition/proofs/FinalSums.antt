@@ -9,7 +9,7 @@ use Rattle.std.specs.Int.{w128}
 use Rattle.std.specs.Cmp.Lexicographic.{pointwise}
 use Rattle.std.proofs.lemmas.Int.{ints}
 use Rattle.std.proofs.lemmas.Bool.{and_parts}
-use Rattle.coeff_rings.specs.Fractions.{whole}
+use Rattle.fraction_laws.specs.Fractions.{whole}
 use Rattle.sym_model.specs.Sum.{Among}
 use Rattle.sym_model.specs.Polynomial.{same, join, pair, coefficient as coefficient_of, resize}
 use Rattle.sym_model.specs.Partition.{in_front, size, without_last_zeros}
@@ -35,11 +35,12 @@ use Rattle.linear_combinations.proofs.Totals.{term-among}
 use Rattle.transition_walk.specs.Growth.{IsShare, SharesOverflow, top_of}
 use Rattle.transition_walk.specs.Transitions.{IsShort}
 use Rattle.transition_walk.proofs.Answering.{sums_as}
-use Rattle.transition_walk.proofs.Monomials.{restrict_pair, schubert_monomials}
+use Rattle.transition_walk.proofs.Monomials.{schubert_monomials}
+use Rattle.schubert_laws.proofs.IndependentSchuberts.{pair_restrict_whole}
 use Rattle.transition_walk.proofs.Shares.{natural}
-use Rattle.schubert_transition.specs.Acted.{acted, raised_terms}
+use Rattle.transition_laws.specs.Acted.{acted, raised_terms}
 use Rattle.schubert_transition.specs.TermLists.{AreTerms, IsMonomialTable, IsSchubertOf}
-use Rattle.schubert_transition.specs.ActedLaws.{identity_shows}
+use Rattle.transition_laws.proofs.ActedLaws.{identity_shows}
 use Rattle.schubert_transition.proofs.Acted.{acted_start, acted_at, shown_natural, at_only_here}
 use Rattle.schubert_transition.proofs.VariableShares.{coefficient_share, share_is, exact_share, outside_share, outside_falls, outside_start, within_by, within_terms}
 use Rattle.sym_model.proofs.PolynomialLaws.{restricted_test}
@@ -48,7 +49,7 @@ use Rattle.linear_combinations.specs.Gains.{weighed}
 use Rattle.sparse_polys.proofs.PolynomialValues.{pair_x_to_in}
 
 coefficient_is : (w α : List ℕ) → coefficient_of (polynomials.schubert w) α ≡ pair (schubert_in w (length w)) (at_only α)
-coefficient_is w α = coefficient_pair (polynomials.schubert w) α ∙ sym (restrict_pair (length w) (polynomials.schubert w) (at_only α) (In_schubert w))
+coefficient_is w α = coefficient_pair (polynomials.schubert w) α ∙ sym (pair_restrict_whole (length w) (polynomials.schubert w) (at_only α) (In_schubert w))
 
 past_from : (w γ : List ℕ) → pos (2 ^ 127) ≤ℤ pair (schubert_in w (length w)) (at_only γ) → HasPast (IsCoefficientOfSchubert w)
 past_from w γ h = (coefficient_of (polynomials.schubert w) γ, (γ, refl), is_past-from (coefficient_of (polynomials.schubert w) γ) (subst (λ z. pos (2 ^ 127) ≤ℤ z) (sym (coefficient_is w γ)) h))

@@ -8,7 +8,7 @@ use Rattle.std.proofs.Common.{◌≡◌, ℕ, zero, suc, ◌+◌, ◌≤◌, Boo
 use Rattle.std.specs.Prelude.{nat_abs}
 use Rattle.std.proofs.lemmas.Int.{ints}
 use Rattle.std.proofs.lemmas.Bool.{and_parts, and_from, leb-true, le-leb}
-use Rattle.coeff_rings.specs.Fractions.{whole}
+use Rattle.fraction_laws.specs.Fractions.{whole}
 use Rattle.sym_model.specs.DividedDifference.{raised}
 use Rattle.sym_model.specs.LabelLimits.{is_monomial_label}
 use Rattle.sym_model.specs.Partition.{size}
@@ -28,8 +28,8 @@ use Rattle.transition_walk.proofs.Monomials.{schubert_monomials}
 use Rattle.transition_walk.proofs.Ranks.{weight_positive}
 use Rattle.transition_walk.proofs.Shares.{natural}
 use Rattle.transition_walk.proofs.Steps.{covers_weigh_less}
-use Rattle.schubert_transition.specs.Acted.{acted, raised_terms}
-use Rattle.schubert_transition.specs.ActedLaws.{acted_step}
+use Rattle.transition_laws.specs.Acted.{acted, raised_terms}
+use Rattle.transition_laws.proofs.ActedLaws.{acted_step}
 use Rattle.schubert_transition.specs.TermLists.{IsMonomialTable}
 use Rattle.schubert_transition.proofs.Acted.{acted_natural}
 use Rattle.sym_model.specs.Sum.{sum_by}

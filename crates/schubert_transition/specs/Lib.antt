@@ -1,4 +1,2 @@
-pub mod Acted
-pub mod ActedLaws
 pub mod TermLists
 pub mod Kept

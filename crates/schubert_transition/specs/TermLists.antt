@@ -1,7 +1,7 @@
 -- Schubert polynomials as lists of monomials with integer coefficients.
 use Rattle.std.specs.Prelude.{ℕ, ◌^◌, ◌≤◌, ◌≤ℤ◌, ◌<ℤ◌, nat_eq, ℤ, pos, List, length}
 use Rattle.std.specs.Cmp.Lexicographic.{pointwise}
-use Rattle.coeff_rings.specs.Fractions.{whole}
+use Rattle.fraction_laws.specs.Fractions.{whole}
 use Rattle.linear_combinations.specs.Entries.{IsCombination}
 use Rattle.sym_model.specs.DividedDifference.{x_to_in}
 use Rattle.sym_model.specs.Expansion.{Represents}

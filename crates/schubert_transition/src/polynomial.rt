@@ -24,7 +24,7 @@ pub(crate) struct TimesVar {
 impl Rule<Monomial, Monomial> for TimesVar {
     ghost use Rattle.std.specs.Prelude.{◌≤◌, ◌<◌};
     ghost use Rattle.sym_model.specs.Partition.{size};
-    ghost use Rattle.schubert_transition.specs.Acted.{raised_terms};
+    ghost use Rattle.transition_laws.specs.Acted.{raised_terms};
 
     ghost takes = { λ rule exponents. (1 ≤ rule.r) × (rule.r ≤ 255) × (size exponents < 32385) };
 
@@ -44,8 +44,8 @@ impl Factor<Monomial> for TimesVar {
     ghost use Rattle.std.specs.Prelude.{◌+◌};
     ghost use Rattle.sym_model.specs.DividedDifference.{x_to_in};
     ghost use Rattle.sym_model.specs.Partition.{size};
-    ghost use Rattle.schubert_transition.specs.Acted.{acted};
-    ghost use Rattle.schubert_transition.specs.ActedLaws.{variable_start, variable_step, variable_grows};
+    ghost use Rattle.transition_laws.specs.Acted.{acted};
+    ghost use Rattle.transition_laws.proofs.ActedLaws.{variable_start, variable_step, variable_grows};
 
     ghost made = { λ r v. record { r = r } };
 

@@ -21,3 +21,4 @@ pub mod Coproducts
 pub mod FewVariables
 pub mod SymmetricPolynomials
 pub mod Families
+pub mod IndependentSchurs

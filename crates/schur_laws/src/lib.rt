@@ -22,14 +22,19 @@
 //! they agree in every number of variables. So a list that expands an expression in d variables
 //! expands it in every number of variables, if d is at least the degree of the expression and the
 //! size of each label of the list.
+//!
+//! `schur_independence_law`: Schur polynomials are linearly independent, and so are products of
+//! Schur polynomials in two sets of variables.
 #![tactic(auto)]
 
 mod coproduct;
 mod degree;
+mod independence;
 mod schur_expansion;
 mod skew_duality;
 
 pub use coproduct::coproduct_law;
 pub use degree::degree_law;
+pub use independence::schur_independence_law;
 pub use schur_expansion::schur_in_monomials_law;
 pub use skew_duality::duality_law;

@@ -10,9 +10,7 @@ ghost use Rattle.skew_shapes.specs.CellFillings.{without_outer_cell};
 ghost use Rattle.skew_shapes.specs.RowTests.{row_passes, stands_below};
 
 use crate::order::{all_positive, rises, stands_on};
-use crate::places::{
-    between, place, push_columns, put_columns, replace_columns, row_starts, without_first,
-};
+use crate::places::{between, place, push_columns, put_columns, row_starts, without_first};
 use crate::{Skew, Tableau, Word};
 use calc_base::NoMemory;
 use std::alloc::Global;
@@ -119,21 +117,6 @@ impl Filled {
         let place = place(&self.starts, row, self.shape.inner().part(row));
         self.numbers[place] = 0;
         self.shape.remove_inner_corner(row);
-    }
-
-    /// Replaces all numbers by the letters of `reading`, in the order of the column reading
-    /// (`column_reading`). Letters in excess of the cells are ignored; if there are too few
-    /// letters, the last cells get 0.
-    pub fn fill(&mut self, reading: &[u16])
-        ensures { self.new ≡ filled_with self.old.outer self.old.inner reading.now }
-    {
-        replace_columns(
-            &mut self.numbers,
-            &self.starts,
-            self.shape.outer().parts(),
-            self.shape.inner().parts(),
-            reading,
-        );
     }
 
     /// Removes the last cell of row `row`, counted from 1, from the shape; everything else is

@@ -10,9 +10,9 @@ ghost use Rattle.skew_shapes.specs.AddedHooks.{added_row, can_add, hooks_ending_
 ghost use Rattle.skew_shapes.specs.AddedHooks.{BeginsFrom};
 ghost use Rattle.skew_shapes.specs.HookLists.{AreHooksAdded};
 
-use crate::lengths::{HookRows, before_zeros, length_of};
+use crate::lengths::{HookRows, length_of};
 use calc_base::{Lister, NoMemory};
-use partitions::Partition;
+use partitions::{Partition, numbers_before_zeros};
 use std::alloc::Global;
 use std::marker::Model;
 
@@ -101,7 +101,7 @@ impl Lister for HooksAdded {
 
     fn current(&self) -> &[u16] {
         let rows = self.base.rows().max(self.hook.last);
-        before_zeros(&self.buffer[..usize::from(rows)])
+        numbers_before_zeros(&self.buffer[..usize::from(rows)])
     }
 }
 

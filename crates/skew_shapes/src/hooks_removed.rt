@@ -11,9 +11,9 @@ ghost use Rattle.skew_shapes.specs.HookLists.{AreHooksRemoved};
 ghost use Rattle.skew_shapes.specs.RemovedHooks.{can_remove, hooks_beginning_within, left_row};
 ghost use Rattle.skew_shapes.specs.RemovedHooks.{without_hook, EndsUpTo};
 
-use crate::lengths::{HookRows, before_zeros, length_of};
+use crate::lengths::{HookRows, length_of};
 use calc_base::{Lister, NoMemory};
-use partitions::Partition;
+use partitions::{Partition, numbers_before_zeros};
 use std::alloc::Global;
 use std::marker::Model;
 
@@ -101,7 +101,7 @@ impl Lister for HooksRemoved {
     }
 
     fn current(&self) -> &[u16] {
-        before_zeros(&self.buffer)
+        numbers_before_zeros(&self.buffer)
     }
 }
 

@@ -35,6 +35,7 @@ pub use filled::{Filled, filling_with_reading};
 pub use hooks_added::HooksAdded;
 pub use hooks_removed::HooksRemoved;
 pub use horizontal_strips::{HorizontalStrips, with_horizontal_strip};
+pub use lengths::has_cell;
 pub use skew::Skew;
 pub use standard::Standard;
 pub use tableau::Tableau;

@@ -7,6 +7,7 @@ ghost use Rattle.sym_model.specs.TableauList.{column_cells, reading_cells};
 ghost use Rattle.skew_shapes.specs.Rows.{HasPlaces, HoldsLetters, cells_above, cells_right_of};
 ghost use Rattle.skew_shapes.specs.Rows.{number_in, place_of, reaches};
 
+use crate::lengths::has_cell;
 use std::alloc::{AllocError, Global};
 
 /// For rows of the given lengths, one after another in one list, the index at which each row
@@ -34,15 +35,6 @@ pub(crate) fn place(starts: &[u16], row: u16, column: u16) -> usize
     usize::from(starts[usize::from(row) - 1]) + (usize::from(column) - 1)
 }
 
-/// Whether outer/inner has a cell in column `column` of row `row`, with rows counted from 0 and
-/// columns from 1.
-fn has_cell(outer: &[u16], inner: &[u16], row: usize, column: u16) -> bool
-    requires { row < length outer.now }
-    ensures { result ≡ reaches outer.now inner.now column (row + 1) }
-{
-    inner.get(row).copied().unwrap_or(0) < column && column <= outer[row]
-}
-
 /// Writes the letters of `word` into the cells of outer/inner in the order of the column reading.
 /// All cells must have the number 0 before; those to which no letter is written keep it.
 pub(crate) fn put_columns(
@@ -64,24 +56,6 @@ pub(crate) fn put_columns(
         rest = put_column(numbers, starts, outer, inner, column, rest, word);
         column -= 1;
     }
-}
-
-/// Sets all numbers to 0, and then writes the letters of `word` into the cells of outer/inner in
-/// the order of the column reading.
-pub(crate) fn replace_columns(
-    numbers: &mut [u16],
-    starts: &[u16],
-    outer: &[u16],
-    inner: &[u16],
-    word: &[u16],
-)
-    requires few { length outer.now ≤ 512 }
-    requires places { HasPlaces starts.now outer.now (length numbers.old) }
-    ensures { HoldsLetters starts.now numbers.new outer.now inner.now
-        (reading_cells outer.now inner.now) word.now }
-{
-    clear(numbers);
-    put_columns(numbers, starts, outer, inner, word);
 }
 
 /// Writes the next letters of `word` into the cells of column `column`, from top to bottom. `rest`
@@ -185,13 +159,4 @@ pub(crate) fn between(numbers: &[u16], from: usize, to: usize) -> &[u16]
     ensures { result.now ≡ take (to - from) (drop from numbers.now) }
 {
     &numbers[from..to]
-}
-
-/// Sets all numbers to zero.
-fn clear(numbers: &mut [u16])
-    ensures { (k : ℕ) → slice_index numbers.new k ≡ 0 }
-{
-    for number in numbers.iter_mut() {
-        *number = 0;
-    }
 }

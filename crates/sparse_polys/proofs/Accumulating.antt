@@ -11,14 +11,14 @@ use Rattle.sym_model.proofs.Orders.{is_reduced-tells}
 use Rattle.sym_model.specs.Partition.{IsPartition}
 use Rattle.sym_model.specs.Expansion.{Fraction, Terms}
 use Rattle.sym_model.specs.Canonical.{is_label}
-use Rattle.coeff_rings.specs.Fractions.{whole, scaled, InLowestTerms, fraction_product}
-use Rattle.coeff_rings.specs.Room.{magnitude}
-use Rattle.coeff_rings.specs.Answers.{AnswersProduct}
-use Rattle.coeff_rings.specs.Proved.Fractions.{InLowestTerms-whole}
-use Rattle.coeff_rings.specs.Proved.Divisors.{quotient_positive}
-use Rattle.coeff_rings.specs.Proved.Cleared.{unsigned_abs-scaled, product-cleared}
+use Rattle.fraction_laws.specs.Fractions.{whole, scaled, InLowestTerms, fraction_product}
+use Rattle.fraction_laws.specs.Room.{magnitude}
+use Rattle.fraction_laws.specs.Answers.{AnswersProduct}
+use Rattle.fraction_laws.proofs.Fractions.{InLowestTerms-whole}
+use Rattle.fraction_laws.proofs.Divisors.{quotient_positive}
+use Rattle.fraction_laws.proofs.Cleared.{unsigned_abs-scaled, product-cleared}
 use Rattle.sparse_polys.specs.Combination.{IsCombination}
-use Rattle.sparse_polys.specs.Labels.{same_partition}
+use Rattle.linear_combinations.proofs.Labels.{same_partition}
 use Rattle.sparse_polys.proofs.Tables.{term-tests}
 pub use Rattle.sparse_polys.proofs.ClearedSums.{lowest_at}
 use Rattle.sparse_polys.proofs.ClearedSums.{size_scaled}

@@ -25,18 +25,18 @@ use Rattle.sym_model.proofs.Orders.{is_reduced-tells}
 use Rattle.sym_model.proofs.Ring.{distributes_right, product_assoc}
 use Rattle.sym_model.proofs.Sums.{total_map}
 use Rattle.monomial_laws.specs.ExpressionTerms.{over}
-use Rattle.coeff_rings.specs.Fractions.{scaled, whole, InLowestTerms, fraction_sum, fraction_product}
-use Rattle.coeff_rings.specs.Room.{magnitude, HasRoomForSum}
-use Rattle.coeff_rings.specs.Answers.{AnswersSum}
-use Rattle.coeff_rings.specs.Proved.Cleared.{unsigned_abs-scaled, sum-cleared, product-cleared}
-use Rattle.coeff_rings.specs.Proved.Divisors.{quotient_positive}
-use Rattle.coeff_rings.specs.Proved.Fractions.{InLowestTerms-whole}
+use Rattle.fraction_laws.specs.Fractions.{scaled, whole, InLowestTerms, fraction_sum, fraction_product}
+use Rattle.fraction_laws.specs.Room.{magnitude, HasRoomForSum}
+use Rattle.fraction_laws.specs.Answers.{AnswersSum}
+use Rattle.fraction_laws.proofs.Cleared.{unsigned_abs-scaled, sum-cleared, product-cleared}
+use Rattle.fraction_laws.proofs.Divisors.{quotient_positive}
+use Rattle.fraction_laws.proofs.Fractions.{InLowestTerms-whole}
 use Rattle.linear_combinations.specs.Entries
 use Rattle.linear_combinations.specs.Gains.{over as sum_over, only, mass, scaled as multiple}
 use Rattle.linear_combinations.proofs.Gains.{over_at}
 use Rattle.linear_combinations.proofs.LowestTerms.{is_reduced-lowest}
 use Rattle.sparse_polys.specs.Combination.{terms_of, are_terms, HasMoreAt, IsCombination}
-use Rattle.sparse_polys.specs.Labels.{same_partition}
+use Rattle.linear_combinations.proofs.Labels.{same_partition}
 use Rattle.sparse_polys.specs.Refusal.{IsRefused}
 use Rattle.sparse_polys.proofs.Tables.{lowest-coefficient}
 use Rattle.sparse_polys.proofs.Totals.{total-more}

@@ -4,7 +4,7 @@ use Rattle.std.specs.Prelude.{Option, Some, None}
 use Rattle.std.specs.Option.{option_map, unwrap_or}
 use Rattle.std.specs.Map.{lookup, keys_of}
 use Rattle.sym_model.specs.Expansion.{Fraction}
-use Rattle.coeff_rings.specs.Fractions.{whole}
+use Rattle.fraction_laws.specs.Fractions.{whole}
 pub use Rattle.linear_combinations.proofs.LowestTerms.{nat_abs-is, lowest-is_reduced, product-zero}
 pub use Rattle.linear_combinations.proofs.Steps.{if_answered}
 use Rattle.sparse_polys.specs.Combination.{terms_of, coefficient}

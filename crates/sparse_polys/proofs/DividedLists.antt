@@ -7,9 +7,9 @@ use Rattle.std.specs.Prelude.{nat_abs}
 use Rattle.std.proofs.lemmas.Bool.{cases_lt, and_parts}
 use Rattle.std.proofs.lemmas.Int.{unsigned_abs-mul}
 use Rattle.std.proofs.lemmas.Nat.Gcd.{mod-eq-zero_of_dvd}
-use Rattle.coeff_rings.specs.Fractions.{whole, lowest_terms}
-use Rattle.coeff_rings.specs.Proved.Fractions.{Stands, Stands-lowest_terms}
-use Rattle.coeff_rings.specs.Proved.Cleared.{scaled-Stands}
+use Rattle.fraction_laws.specs.Fractions.{whole, lowest_terms}
+use Rattle.fraction_laws.proofs.Fractions.{Stands, Stands-lowest_terms}
+use Rattle.fraction_laws.proofs.Cleared.{scaled-Stands}
 use Rattle.sym_model.specs.Sum.{Among}
 use Rattle.sym_model.specs.Partition.{size}
 use Rattle.sym_model.specs.Polynomial.{Poly, coefficient, scale}

@@ -27,9 +27,9 @@ use Rattle.sym_model.specs.WholeTerms.{WholeTerms}
 use Rattle.monomial_laws.proofs.WeightBounds.{lcm-left, lcm-right, lcm-positive}
 use Rattle.std.proofs.lemmas.Nat.Gcd.{dvd_trans}
 use Rattle.sym_model.proofs.Orders.{is_reduced-tells, is_label-tells}
-use Rattle.coeff_rings.specs.Fractions.{whole, scaled}
+use Rattle.fraction_laws.specs.Fractions.{whole, scaled}
 use Rattle.sparse_polys.specs.Combination.{terms_of, IsPartitionTable}
-use Rattle.sparse_polys.specs.Labels.{same_partition}
+use Rattle.linear_combinations.proofs.Labels.{same_partition}
 use Rattle.monomial_laws.specs.MonomialProduct.{product_coefficient}
 use Rattle.monomial_laws.specs.ExpressionTerms.{IsList, over}
 use Rattle.monomial_laws.proofs.ExpressionTerms.{list-product}

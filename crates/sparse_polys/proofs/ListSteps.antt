@@ -7,7 +7,7 @@ use Rattle.sym_model.specs.WholeTerms.{WholeTerms}
 use Rattle.linear_combinations.specs.Gains.{replaced, scaled as multiple}
 use Rattle.linear_combinations.proofs.Gains.{replaced_append, scaled_append}
 use Rattle.monomial_laws.specs.ExpressionTerms.{over}
-use Rattle.coeff_rings.specs.Fractions.{scaled}
+use Rattle.fraction_laws.specs.Fractions.{scaled}
 use Rattle.sparse_polys.specs.Combination.{terms_of}
 pub use Rattle.linear_combinations.proofs.Gains.{so_far_next}
 pub use Rattle.sparse_polys.proofs.Rows.{list_whole, list_among}

@@ -13,11 +13,11 @@ use Rattle.sym_model.specs.Expansion.{Fraction, Terms}
 use Rattle.sym_model.specs.Partition.{without_last_zeros}
 use Rattle.sym_model.proofs.Exponents.{same_true}
 use Rattle.sym_model.proofs.Sums.{Among-append_left, Among-append_right}
-use Rattle.coeff_rings.specs.Fractions.{whole, fraction_sum, InLowestTerms}
+use Rattle.fraction_laws.specs.Fractions.{whole, fraction_sum, InLowestTerms}
 use Rattle.sparse_polys.proofs.Tables.{term-tests}
 use Rattle.sparse_polys.proofs.Coefficients.{lowest-is_reduced}
 use Rattle.sparse_polys.specs.Combination.{terms_of, HasMoreAt, IsPolynomialTable}
-use Rattle.sparse_polys.specs.Labels.{same_partition}
+use Rattle.linear_combinations.proofs.Labels.{same_partition}
 use Rattle.sparse_polys.proofs.Steps.{absent_before}
 use Rattle.sparse_polys.proofs.Totals.{carried}
 use Rattle.sparse_polys.specs.Products.{coefficient_at, AreRaised}

@@ -30,7 +30,7 @@ use Rattle.sym_model.proofs.Ring.{one-product, product_assoc, product_left_comm}
 use Rattle.sym_model.proofs.Sums.{total_ext, total_among, total_map, total_scale, total_zero}
 use Rattle.sym_model.specs.WholeTerms.{WholeTerms}
 use Rattle.sym_model.proofs.Integers.{nat_abs-product}
-use Rattle.coeff_rings.specs.Fractions.{scaled}
+use Rattle.fraction_laws.specs.Fractions.{scaled}
 use Rattle.linear_combinations.specs.Gains.{mass}
 use Rattle.linear_combinations.proofs.Masses.{mass_append, overflow_mass}
 use Rattle.monomial_laws.specs.ExpressionTerms.{over}

@@ -20,7 +20,7 @@ use Rattle.sym_model.proofs.Exponents.{same_from, same_apart}
 use Rattle.sym_model.proofs.PartitionLists.{partitions_of-tells, Among-partitions_of, Once-FallsLexicographically, FallsLexicographically-partitions_within}
 use Rattle.sym_model.proofs.Polynomials.{pair_ext, pair_determined}
 use Rattle.sym_model.proofs.Sums.{Among_from_map, total_map, total_none, total_only}
-use Rattle.coeff_rings.specs.Fractions.{scaled as numerator}
+use Rattle.fraction_laws.specs.Fractions.{scaled as numerator}
 use Rattle.monomial_laws.specs.MonomialProduct.{arrangements, product_coefficient}
 use Rattle.monomial_laws.specs.ExpressionTerms.{over, absolute}
 use Rattle.monomial_laws.proofs.Arrangements.{arrangements-sizes}

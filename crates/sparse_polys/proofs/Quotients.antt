@@ -4,10 +4,10 @@
 use Rattle.std.proofs.Common.{◌≡◌, ◌⊎◌, ℕ, ◌*◌, ◌<◌, true, cond, List, [], ◌∷◌, ◌++◌, refl, sym, ◌∙◌, ap, subst, inl, inr, arith, ℤ, pos, ◌+ℤ◌, ◌*ℤ◌}
 use Rattle.std.proofs.lemmas.Int.{ints}
 use Rattle.std.proofs.lemmas.List.{map-append}
-use Rattle.coeff_rings.specs.Fractions.{whole, lowest_terms, fraction_sum}
-use Rattle.coeff_rings.specs.Checked.{IsFraction, checked_fraction_sum}
-use Rattle.coeff_rings.specs.Proved.Fractions.{Stands-same, Stands-whole, Stands-sum, Stands-lowest_terms}
-use Rattle.coeff_rings.specs.Proved.FractionAnswers.{sum_answers_fraction}
+use Rattle.fraction_laws.specs.Fractions.{whole, lowest_terms, fraction_sum}
+use Rattle.fraction_laws.specs.Checked.{IsFraction, checked_fraction_sum}
+use Rattle.fraction_laws.proofs.Fractions.{Stands-same, Stands-whole, Stands-sum, Stands-lowest_terms}
+use Rattle.fraction_laws.proofs.FractionAnswers.{sum_answers_fraction}
 use Rattle.sym_model.specs.Sum.{Among, Once}
 use Rattle.sym_model.specs.Polynomial.{Term, same, coefficient}
 use Rattle.sym_model.specs.Expansion.{Fraction, Terms, denominators}

@@ -10,8 +10,8 @@ use Rattle.std.specs.List.{IsDistinct}
 use Rattle.std.specs.Ordering.{is_lt}
 use Rattle.std.proofs.lemmas.Bool.{and_parts}
 use Rattle.std.specs.declared.cmp.Ordering.{Ordering}
-use Rattle.coeff_rings.specs.Fractions.{whole, InLowestTerms}
-use Rattle.coeff_rings.specs.Proved.Fractions.{InLowestTerms-whole}
+use Rattle.fraction_laws.specs.Fractions.{whole, InLowestTerms}
+use Rattle.fraction_laws.proofs.Fractions.{InLowestTerms-whole}
 use Rattle.sym_model.specs.Expansion.{Fraction, Terms}
 use Rattle.sym_model.specs.Sum.{Among}
 use Rattle.sym_model.specs.Canonical.{is_ordered, is_reduced, each_term}

@@ -1,7 +1,7 @@
 -- Sums over the terms of a combination: they are determined by its coefficients, whatever the order of the terms.
 use Rattle.std.proofs.Common.{◌≡◌, Bool, true, ℤ, pos, ◌+ℤ◌, refl}
 use Rattle.std.specs.Cmp.{IsEquivalence}
-use Rattle.coeff_rings.specs.Fractions.{whole, fraction_sum}
+use Rattle.fraction_laws.specs.Fractions.{whole, fraction_sum}
 use Rattle.sym_model.specs.Sum.{total, Among}
 use Rattle.sym_model.specs.Expansion.{Fraction, Terms}
 use Rattle.linear_combinations.proofs.Totals

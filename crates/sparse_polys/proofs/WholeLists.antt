@@ -13,9 +13,9 @@ use Rattle.std.specs.Map.{keys_of}
 use Rattle.std.specs.Option.{unwrap_or}
 use Rattle.std.proofs.lemmas.Bool.{and_parts, both_ways}
 use Rattle.std.proofs.lemmas.Map.Keys.{IsDistinct-head, IsDistinct-tail}
-use Rattle.coeff_rings.specs.Fractions.{whole}
-use Rattle.coeff_rings.specs.Checked.{checked_i128}
-use Rattle.coeff_rings.specs.Proved.Whole.{sum_answers_i128}
+use Rattle.fraction_laws.specs.Fractions.{whole}
+use Rattle.fraction_laws.specs.Checked.{checked_i128}
+use Rattle.fraction_laws.proofs.Whole.{sum_answers_i128}
 use Rattle.sym_model.specs.Sum.{Among, Once}
 use Rattle.sym_model.specs.Partition.{IsPartition}
 use Rattle.sym_model.specs.Polynomial.{Same, same, coefficient as coefficient_of}
@@ -29,7 +29,7 @@ use Rattle.sym_model.proofs.Sums.{total_none}
 use Rattle.sym_model.proofs.Exponents.{same_from, same_apart, same_or_not}
 use Rattle.linear_combinations.specs.Entries.{coefficient, HasMoreAt, IsRefused}
 use Rattle.linear_combinations.specs.Gains.{HaveLabels, over}
-use Rattle.linear_combinations.specs.Labels.{same_partition}
+use Rattle.linear_combinations.proofs.Labels.{same_partition}
 use Rattle.linear_combinations.proofs.Found.{coefficient_found}
 use Rattle.linear_combinations.proofs.Gains.{gains_labels}
 use Rattle.linear_combinations.proofs.Steps.{fits-zero_left}

@@ -3,7 +3,7 @@
 use Rattle.std.specs.Prelude.{ℕ, nat_eq, pos, Bool, List, map}
 use Rattle.std.specs.Cmp.Lexicographic.{pointwise}
 use Rattle.std.specs.declared.cmp.Ordering.{Ordering}
-use Rattle.coeff_rings.specs.Fractions.{fraction_sum, fraction_product}
+use Rattle.fraction_laws.specs.Fractions.{fraction_sum, fraction_product}
 use Rattle.sym_model.specs.Expansion.{Fraction, Terms}
 use Rattle.sym_model.specs.Canonical.{is_label}
 use Rattle.sym_model.specs.LabelLimits.{is_monomial_label}

@@ -1,8 +1,6 @@
 pub mod Combination
 pub mod Refusal
-pub mod Labels
 pub mod Limits
-pub mod Ties
 pub mod Raised
 pub mod Products
 pub mod Ways

@@ -1,6 +1,6 @@
 //! Division of a list with integer coefficients by a number.
 ghost use Rattle.std.specs.Prelude.{◌≡◌, ℕ, List, ◌<◌, ◌^◌, IfOk, IsErrOf};
-ghost use Rattle.coeff_rings.specs.Fractions.{lowest_terms};
+ghost use Rattle.fraction_laws.specs.Fractions.{lowest_terms};
 ghost use Rattle.sym_model.specs.Polynomial.{coefficient};
 ghost use Rattle.sparse_polys.specs.Tables.{found, IsFractionTable};
 

@@ -14,6 +14,7 @@ ghost use Rattle.sparse_polys.specs.Raised.{raised};
 
 use crate::MonoFault;
 use calc_base::NoMemory;
+use partitions::{number_at, numbers_before_zeros, sum_of_numbers};
 use smallvec::SmallVec;
 use std::alloc::{AllocError, Global};
 use std::cmp::Ordering;
@@ -68,7 +69,7 @@ impl Monomial {
         if exponents.len() > MAX_EXPONENTS {
             return Err(MonoFault::TooMany);
         }
-        let degree = sum_of(exponents);
+        let degree = sum_of_numbers(exponents);
         if degree > MAX_DEGREE {
             return Err(MonoFault::TooBig);
         }
@@ -202,13 +203,6 @@ fn joined(alloc: Global, first: &[u16], second: &[u16]) -> Result<Exponents, All
     Ok(sums)
 }
 
-/// The number at the index `at`, or 0 if the list ends before this index.
-fn number_at(numbers: &[u16], at: usize) -> u16
-    ensures { result ≡ slice_index_or numbers.now at 0 }
-{
-    numbers.get(at).copied().unwrap_or(0)
-}
-
 /// Adds 1 to the exponent at the index `at`, counted from 0; if the list ends before this index,
 /// zeros are appended first.
 fn raise(exponents: &mut Exponents, at: usize) -> Result<(), AllocError>
@@ -230,27 +224,4 @@ fn add_one(numbers: &mut [u16], at: usize)
     ensures { numbers.new ≡ slice_set numbers.old at (slice_index numbers.old at + 1) }
 {
     numbers[at] += 1;
-}
-
-/// The numbers without the zeros at their end.
-fn numbers_before_zeros(numbers: &[u16]) -> &[u16]
-    ensures { result.now ≡ without_last_zeros numbers.now }
-{
-    let mut len = numbers.len();
-    while len > 0 && numbers[len - 1] == 0 {
-        len -= 1;
-    }
-    &numbers[..len]
-}
-
-/// The sum of the numbers.
-fn sum_of(numbers: &[u16]) -> u32
-    requires { length numbers.now ≤ 255 }
-    ensures { result ≡ size numbers.now }
-{
-    let mut sum: u32 = 0;
-    for number in numbers {
-        sum += u32::from(*number);
-    }
-    sum
 }

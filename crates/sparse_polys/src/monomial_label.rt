@@ -9,8 +9,8 @@ use std::cmp::Ordering;
 
 impl Label for Monomial {
     ghost use Rattle.sym_model.proofs.Orders.{printed_order-total};
-    ghost use Rattle.sparse_polys.specs.Labels.{same_partition};
-    ghost use Rattle.sparse_polys.specs.Ties.{monomial_order_equal};
+    ghost use Rattle.linear_combinations.proofs.Labels.{same_partition};
+    ghost use Rattle.linear_combinations.proofs.Labels.{monomial_order_equal};
 
     ghost is_label = { is_monomial_label };
 

@@ -31,7 +31,7 @@ impl Model for Pair {
 }
 
 impl Label for Pair {
-    ghost use Rattle.sparse_polys.specs.Labels.{same_pair, pair_order_is_total, pair_order_equal};
+    ghost use Rattle.linear_combinations.proofs.Labels.{same_pair, pair_order_is_total, pair_order_equal};
 
     ghost is_label = { is_pair_label };
 

@@ -9,8 +9,9 @@ ghost use Rattle.sparse_polys.specs.Ways.{capped, ways, taken, is_choice_at, IsR
 ghost use Rattle.sparse_polys.specs.Ways.{LeaveOnce, HasPartAbove};
 ghost use Rattle.sym_model.specs.Bounded.{AreBelow};
 
-use crate::parts::{has_part, without_part};
+use crate::parts::without_part;
 use crate::states::{State, add_state};
+use partitions::has_part;
 use std::alloc::{AllocError, Global};
 
 /// Whether no number of `parts`, a weakly decreasing list, is greater than `part`.

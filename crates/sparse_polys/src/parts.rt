@@ -1,22 +1,9 @@
-//! Lists of parts: whether a part occurs, the list without one part, and the sum of the parts.
+//! Lists of parts: the list without one part, and the sum of the parts.
 ghost use Rattle.std.specs.Prelude.{◌≡◌, ◌<◌, ◌^◌, IfOk};
-ghost use Rattle.sym_model.specs.Bases.{has};
 ghost use Rattle.sym_model.specs.Partition.{size};
 ghost use Rattle.sym_model.specs.RaisedPart.{without_one};
 
 use std::alloc::{AllocError, Global};
-
-/// Whether `part` is one of the parts.
-pub(crate) fn has_part(parts: &[u16], part: u16) -> bool
-    ensures { result ≡ has part parts.now }
-{
-    for p in parts {
-        if *p == part {
-            return true;
-        }
-    }
-    false
-}
 
 /// The parts without the first one that equals `part`.
 pub(crate) fn without_part(alloc: Global, parts: &[u16], part: u16) -> Result<Vec<u16>, AllocError>

@@ -31,8 +31,8 @@ impl Model for Power {
 }
 
 impl Label for Power {
-    ghost use Rattle.sparse_polys.specs.Labels.{same_power, power_order_is_total};
-    ghost use Rattle.sparse_polys.specs.Labels.{power_order_equal};
+    ghost use Rattle.linear_combinations.proofs.Labels.{same_power, power_order_is_total};
+    ghost use Rattle.linear_combinations.proofs.Labels.{power_order_equal};
 
     ghost is_label = { is_power_label };
 

@@ -9,7 +9,7 @@ ghost use Rattle.sym_model.specs.ListWeight.{list_weight};
 ghost use Rattle.sym_model.specs.Polynomial.{join, times};
 ghost use Rattle.sym_model.specs.Sum.{Among};
 ghost use Rattle.monomial_laws.specs.ExpressionTerms.{over};
-ghost use Rattle.coeff_rings.specs.Fractions.{scaled, whole};
+ghost use Rattle.fraction_laws.specs.Fractions.{scaled, whole};
 ghost use Rattle.sparse_polys.specs.Combination.{terms_of, HasMoreAt, IsPolynomialTable};
 ghost use Rattle.sparse_polys.specs.Limits.{IsWithinLimits};
 ghost use Rattle.sparse_polys.specs.Products.{value_in, coefficient_at, FitTogether, HaveRoomForVariable};

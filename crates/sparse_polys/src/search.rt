@@ -23,15 +23,6 @@ pub(crate) struct Counted {
     pub count: u128,
 }
 
-/// A copy of the list of parts.
-fn copy_of(alloc: Global, parts: &[u16]) -> Result<Vec<u16>, AllocError>
-    ensures { IfOk result (λ copy. copy.items ≡ parts.now) }
-{
-    let mut copy = Vec::new(alloc);
-    copy.extend_from_slice(parts)?;
-    Ok(copy)
-}
-
 /// The sum of the counts of `states`, or 2^128 - 1 if the sum exceeds that number. No state may
 /// have remaining parts.
 fn ways_to_end(states: &[State]) -> u128
@@ -70,14 +61,14 @@ fn extend(
         return Ok(());
     }
     if left == 0 {
-        let parts = copy_of(alloc, chosen)?;
+        let parts = Vec::from_slice(alloc, chosen)?;
         let count = ways_to_end(states);
         out.push(Counted { parts, count })?;
         return Ok(());
     }
     for i in 0..largest.min(left) {
         let next = step(alloc, states, i + 1)?;
-        let mut more = copy_of(alloc, chosen)?;
+        let mut more = Vec::from_slice(alloc, chosen)?;
         more.push(i + 1)?;
         extend(
             alloc,
@@ -111,8 +102,8 @@ pub(crate) fn label_product(
 {
     let total = size_of(left) + size_of(right);
     let start = State {
-        left: copy_of(alloc, left)?,
-        right: copy_of(alloc, right)?,
+        left: Vec::from_slice(alloc, left)?,
+        right: Vec::from_slice(alloc, right)?,
         count: 1,
     };
     let mut states = Vec::new(alloc);

@@ -31,8 +31,8 @@ impl Model for Shifted {
 }
 
 impl Label for Shifted {
-    ghost use Rattle.sparse_polys.specs.Labels.{same_pair};
-    ghost use Rattle.sparse_polys.specs.Ties.{shifted_order_is_total, shifted_order_equal};
+    ghost use Rattle.linear_combinations.proofs.Labels.{same_pair};
+    ghost use Rattle.linear_combinations.proofs.Labels.{shifted_order_is_total, shifted_order_equal};
 
     ghost is_label = { is_shifted_label };
 

@@ -8,29 +8,12 @@ use Rattle.sym_model.specs.Permutation.{IsOneLine, letter, kept}
 use Rattle.sym_model.specs.Schubert.{schubert_in}
 use Rattle.sym_model.proofs.Sums.{Among_from_append, Among_from_map, Once-append, Once-map}
 use Rattle.sym_model.proofs.AfterLists.{length_after, after_among, once_after}
+use Rattle.schubert_laws.proofs.Blocks.{length-behind, one_line_behind}
 use Rattle.schubert_laws.proofs.FixedTails.{one_line_kept, schubert_kept}
 use Rattle.schubert_laws.proofs.Members.{fewer_kept}
 use Rattle.sym_model.specs.Stanley.{behind, stanley_in}
 use Rattle.stanley_expand.specs.Grassmannian.{RisesTo, IsRising}
 use Rattle.stanley_expand.proofs.FirstPlaces.{rises_kept}
-
-abbrev up_by : ℕ → ℕ → ℕ
-up_by m a = a + m
-
-pub length-behind : (m : ℕ) (w : List ℕ) → length (behind m w) ≡ m + length w
-length-behind m w = let a = length-append (after 0 m) (map (up_by m) w) in let b = length_after 0 m in let c = length-map w (up_by m) in omega arith
-
-pub one_line_behind : (m : ℕ) (w : List ℕ) → IsOneLine w → IsOneLine (behind m w)
-one_line_behind m w o = record {
-  letters = λ a i.
-      let l = length-behind m w in
-      elim (Among_from_append a (after 0 m) (map (up_by m) w) i) [
-        | inl k ↦ let r = after_among 0 m a k in let r0 = r.0 in let r1 = r.1 in (omega arith, omega arith)
-        | inr k ↦ let t = Among_from_map (up_by m) a w k in let r = o.letters t.0 t.1 in let r0 = r.0 in let r1 = r.1 in let e = t.2 in (omega arith, omega arith)
-      ];
-  once = Once-append (after 0 m) (map (up_by m) w) (once_after 0 m) (Once-map (up_by m) w (λ x y i j e. omega arith) o.once)
-      (λ a i k. let r = (after_among 0 m a i).1 in let t = Among_from_map (up_by m) a w k in let p = (o.letters t.0 t.1).0 in let e = t.2 in omega arith);
-}
 
 get_after : (d t q e : ℕ) → q < t → get_or (after d t) q e ≡ suc (d + q)
 get_after d zero q e h = absurd (omega arith)
@@ -40,7 +23,7 @@ get_after d (suc t) (suc q) e h = let g = get_after (d + 1) t q e (omega arith) 
 letter_behind : (m i : ℕ) (w : List ℕ) → 1 ≤ i → i ≤ m → letter (behind m w) i ≡ i
 letter_behind m i w h l =
     let n = length_after 0 m in
-    let a = get_or-append (after 0 m) (map (up_by m) w) i (i - 1) (omega arith) in
+    let a = get_or-append (after 0 m) (map (λ a. a + m) w) i (i - 1) (omega arith) in
     let b = get_after 0 m (i - 1) i (omega arith) in
     omega arith
 

@@ -11,3 +11,5 @@ pub mod Overflows
 pub mod ShapeLimits
 pub mod Expansions
 pub mod GreaterLetters
+pub mod BlockEnds
+pub mod SumsAdded

@@ -12,7 +12,7 @@ use Rattle.sym_model.specs.WholeTerms.{WholeTerms, AreCounts}
 use Rattle.sym_model.proofs.Integers.{product-nonnegative, product-at_least}
 use Rattle.sym_model.proofs.Ring.{distributes_right, product-one}
 use Rattle.linear_combinations.specs.Gains.{over, only, Overflows, HaveLabels}
-use Rattle.linear_combinations.specs.Labels.{same_partition}
+use Rattle.linear_combinations.proofs.Labels.{same_partition}
 use Rattle.stanley_expand.specs.GreaterBefore.{HasMoreBefore}
 use Rattle.stanley_expand.specs.Grassmannian.{IsRising}
 use Rattle.stanley_expand.specs.SchurPositive.{schur_test}

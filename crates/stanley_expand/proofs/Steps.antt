@@ -25,9 +25,9 @@ use Rattle.sym_model.proofs.Orders.{is_label-tells}
 use Rattle.schubert_laws.proofs.LowerPermutations.{transition_covers_lower, transition_inversions}
 use Rattle.schubert_laws.proofs.Members.{cover_inversions}
 use Rattle.schubert_laws.proofs.Ranks.{rank_lower}
-use Rattle.coeff_rings.specs.Fractions.{whole}
+use Rattle.fraction_laws.specs.Fractions.{whole}
 use Rattle.linear_combinations.specs.Gains.{over, only, Gains, Overflows}
-use Rattle.linear_combinations.specs.Labels.{same_partition}
+use Rattle.linear_combinations.proofs.Labels.{same_partition}
 use Rattle.linear_combinations.proofs.Found.{coefficient_over}
 use Rattle.linear_combinations.proofs.Gains.{over_at}
 use Rattle.linear_combinations.proofs.Masses.{labels_gained}

@@ -21,16 +21,16 @@ use Rattle.sym_model.specs.WholeTerms.{WholeTerms, AreCounts}
 use Rattle.sym_model.proofs.Integers.{product-nonnegative, cond-nonnegative}
 use Rattle.sym_model.proofs.Sums.{total_append, Among-append_right}
 use Rattle.sym_model.proofs.Ring.{distributes_left, one-product}
-use Rattle.coeff_rings.specs.Fractions.{whole}
+use Rattle.fraction_laws.specs.Fractions.{whole}
 use Rattle.linear_combinations.specs.Entries.{IsCombination, IsWholeTable}
 use Rattle.linear_combinations.specs.Gains.{over, only, Gains, HaveLabels}
-use Rattle.linear_combinations.specs.Labels.{same_partition}
+use Rattle.linear_combinations.proofs.Labels.{same_partition}
 use Rattle.linear_combinations.proofs.Found.{coefficient_over, coefficient_of_term}
 use Rattle.linear_combinations.proofs.Gains.{over_append}
 use Rattle.sym_model.specs.LabelLimits.{is_label}
 use Rattle.linear_combinations.proofs.Steps.{IsCombination-empty}
 use Rattle.linear_combinations.proofs.Tables.{held_nothing}
-use Rattle.coeff_rings.specs.Proved.Whole.{zero_fits_128_bits}
+use Rattle.fraction_laws.proofs.Whole.{zero_fits_128_bits}
 use Rattle.std.specs.Int.{w128}
 use Rattle.std.specs.Prelude.{FitsSigned}
 use Rattle.linear_combinations.proofs.Masses.{labels_gained}

@@ -5,8 +5,7 @@ ghost use Rattle.sym_model.specs.Products.{ExpandsInSchurs};
 ghost use Rattle.sym_model.specs.PastLimit.{HasPast, IsCoefficientOfStanley};
 ghost use Rattle.sym_model.specs.Stanley.{stanley_in};
 
-use crate::behind::behind_fixed;
-use crate::walk::in_schurs;
+use crate::blocks::in_schurs;
 use calc_base::SumFault;
 use coeff_rings::Int;
 use linear_combinations::Terms;
@@ -19,10 +18,8 @@ use std::alloc::Global;
 ///
 /// Unless memory runs out, returns `Large` if and only if a coefficient exceeds 2^127 - 1.
 ///
-/// The transition rule of Lascoux and Schützenberger is applied to 1^`rows` × w. A term with a
-/// factor x_r is dropped if r is greater than `rows`. At the end only Grassmannian permutations are
-/// left, whose Schubert polynomials are Schur polynomials (Macdonald, Notes on Schubert
-/// polynomials, IV and VII).
+/// A permutation of one block is expanded by the transition rule. If there are several blocks, their
+/// Stanley polynomials are multiplied.
 pub fn stanley(alloc: Global, w: &Perm, rows: u16) -> Result<Terms<Partition, Int>, SumFault>
     requires variables { (1 ≤ rows) × (rows ≤ 64) }
     requires letters { length w.now ≤ 16 }
@@ -32,6 +29,6 @@ pub fn stanley(alloc: Global, w: &Perm, rows: u16) -> Result<Terms<Partition, In
         → HasPast (IsCoefficientOfStanley rows w.now) }
     ensures fits { OnOk result (HasPast (IsCoefficientOfStanley rows w.now) → ⊥) }
 {
-    let sum = in_schurs(alloc, behind_fixed(alloc, w, rows)?, rows)?;
+    let sum = in_schurs(alloc, w, rows)?;
     Ok(sum.sorted_terms()?)
 }

@@ -21,9 +21,11 @@
 #![tactic(auto)]
 
 mod behind;
+mod blocks;
 mod expansion;
 mod grassmannian_laws;
 mod letters;
+mod products;
 mod stanley_polynomials;
 mod walk;
 

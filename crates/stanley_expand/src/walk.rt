@@ -43,7 +43,7 @@ type Counts = Lin<Perm, Int>;
 /// table with the greatest number is expanded first. The transition rule replaces a permutation by
 /// others with smaller numbers. So nothing is added to a table after it is expanded, and each
 /// permutation is expanded at most once.
-pub(crate) fn in_schurs(alloc: Global, start: Perm, rows: u16) -> Result<Schurs, SumFault>
+pub(crate) fn by_transitions(alloc: Global, start: Perm, rows: u16) -> Result<Schurs, SumFault>
     requires few { rows ≤ 64 }
     requires rising { IsRising rows (rows + 16) start }
     ensures value { IfOk result (λ sum. (φ : List ℕ → ℤ)

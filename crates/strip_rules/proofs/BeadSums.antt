@@ -33,9 +33,10 @@ use Rattle.linear_combinations.specs.Gains.{Gains, Overflows, over, mass, each_b
 use Rattle.linear_combinations.proofs.Gains.{replaced_over}
 use Rattle.linear_combinations.proofs.Masses.{labels_gained, labels_replaced, mass_replaced, overflow_mass}
 use Rattle.linear_combinations.specs.Entries.{IsCombination}
-use Rattle.coeff_rings.specs.Fractions.{whole}
+use Rattle.fraction_laws.specs.Fractions.{whole}
 use Rattle.std.specs.Cmp.{nat_eq_equiv}
-use Rattle.beta_sets.specs.BetaSets.{numbers, places, shape, shapes, same_set, set_of, IsInRows}
+use Rattle.beta_sets.specs.BetaSets.{numbers, places, shape, shapes, set_of, IsInRows}
+use Rattle.linear_combinations.proofs.Labels.{same_number}
 use Rattle.beta_sets.proofs.SetNumbers.{set_of-numbers, beads_of}
 use Rattle.beta_sets.proofs.GreatestPlaces.{places_strict}
 use Rattle.beta_sets.proofs.ShapeSums.{over-shapes, one_label}
@@ -184,12 +185,12 @@ shapes_of_one set c sum e f is gains = record {
       ∙ alone (pair (schur (shape (2 ^ 20 - 1)) n) φ)
       ∙ ap (λ g. pair g φ) (ap (λ l. schur l n) in_twenty_rows.1 ∙ schur-nothing n);
   within =
-      labels_gained nat_eq_equiv same_set [] ((set, c) ∷ []) sum is gains (IsInRows 20 0) (λ t m. absurd m)
+      labels_gained nat_eq_equiv same_number [] ((set, c) ∷ []) sum is gains (IsInRows 20 0) (λ t m. absurd m)
       (one_label (IsInRows 20 0) set c
       (subst (IsInRows 20 0) (sym here)
       (record { word = omega arith; rows = in_twenty_rows.0; cells = let z = ap size in_twenty_rows.1 in omega arith })));
   few =
-      let m = gains_mass same_set nat_eq_equiv [] ((set, c) ∷ []) sum is gains in
+      let m = gains_mass same_number nat_eq_equiv [] ((set, c) ∷ []) sum is gains in
       let a = ap nat_abs f in
       let p : 20 ^ 0 ≡ 1 = omega arith in
       omega arith;
@@ -244,11 +245,11 @@ pub strip_times : (strip : Strip) (k d : ℕ) (f : ℕ → Poly) (list sum : Who
 strip_times strip k d f list sum low are within is gains = record {
   value = list_times (polynomial_by strip k) f (λ set. each_by (λ s. pos 1) (strips strip k set)) list sum gains are.value (λ t m n φ. strips_over strip k t.0 (omega arith) (within t m) n φ);
   within =
-      labels_gained nat_eq_equiv same_set [] (replaced (λ set. each_by (λ s. pos 1) (strips strip k set)) list) sum is gains (IsInRows 20 (d + k)) (λ t m. absurd m)
+      labels_gained nat_eq_equiv same_number [] (replaced (λ set. each_by (λ s. pos 1) (strips strip k set)) list) sum is gains (IsInRows 20 (d + k)) (λ t m. absurd m)
       (labels_replaced (λ set. each_by (λ s. pos 1) (strips strip k set)) (IsInRows 20 (d + k)) list
       (λ t m. strips_within strip k t.0 (omega arith) (within t m) d (are.within t m).cells));
   few =
-      let m = gains_mass same_set nat_eq_equiv [] (replaced (λ set. each_by (λ s. pos 1) (strips strip k set)) list) sum is gains in
+      let m = gains_mass same_number nat_eq_equiv [] (replaced (λ set. each_by (λ s. pos 1) (strips strip k set)) list) sum is gains in
       let r = strips_mass strip k list (omega arith) within in
       let f = mul-le-mul_right (20 ^ k) are.few in
       let p = sym (pow-add 20 d k) in

@@ -21,7 +21,7 @@ use Rattle.monomial_laws.proofs.Splits.{product_coefficient-arrangements}
 use Rattle.strip_rules.proofs.ColumnArrangements.{column-strips}
 use Rattle.strip_rules.proofs.ShapeCounts.{column-shapes}
 use Rattle.linear_combinations.specs.Gains.{over, only, mass_at, counted, replaced, HaveLabels}
-use Rattle.linear_combinations.specs.Labels.{same_partition}
+use Rattle.linear_combinations.proofs.Labels.{same_partition}
 use Rattle.linear_combinations.proofs.Counted.{each_by-over, each_by-labels, counted_counts, replaced_at, replaced_mass}
 use Rattle.linear_combinations.proofs.Found.{coefficient_over}
 use Rattle.linear_combinations.proofs.Masses.{label_held, labels_replaced}

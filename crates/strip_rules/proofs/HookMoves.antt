@@ -9,7 +9,7 @@ use Rattle.std.proofs.Math.Nat.{mul-le-mul_right, pow-le-pow_right}
 use Rattle.std.proofs.lemmas.Bool.{cases_lt, lt-ltb, ne_eqb, not-true}
 use Rattle.std.proofs.lemmas.Bool.Decides.{nat_tests}
 use Rattle.std.proofs.lemmas.Nat.{pow-add}
-use Rattle.coeff_rings.specs.Fractions.{whole}
+use Rattle.fraction_laws.specs.Fractions.{whole}
 use Rattle.sym_model.specs.Sum.{Among}
 use Rattle.sym_model.specs.Bases.{has, power_sum_of, product_over}
 use Rattle.sym_model.specs.BetaList.{beta, from_beta, greater}
@@ -35,7 +35,8 @@ use Rattle.linear_combinations.proofs.Gains.{gains_both, scaled_append, overflow
 use Rattle.linear_combinations.proofs.Weighed.{gains_mass}
 use Rattle.sym_model.proofs.Integers.{nat_abs-product, sign_size}
 use lib.IntN.{*ℤ_comm}
-use Rattle.beta_sets.specs.BetaSets.{numbers, shape, free, set_of, same_set, IsInRows, IsSplit}
+use Rattle.beta_sets.specs.BetaSets.{numbers, shape, free, set_of, IsInRows, IsSplit}
+use Rattle.linear_combinations.proofs.Labels.{same_number}
 use Rattle.beta_sets.proofs.SetNumbers.{set_of-numbers, same_shape, beads_of}
 use Rattle.strip_rules.specs.FamilyShapes.{AreShapesOf}
 use Rattle.strip_rules.specs.HookMoves.{passed, hook_from, hooks}
@@ -360,11 +361,11 @@ pub hook_times : (k d : ℕ) (f : ℕ → Poly) (list sum : WholeTermsOf ℕ) �
 hook_times k d f list sum one low are within is gains = record {
   value = list_times (power_sum_of k) f (hooks k) list sum gains are.value (λ t m n φ. hooks_over k t.0 one (omega arith) (within t m) n φ);
   within =
-      labels_gained nat_eq_equiv same_set [] (replaced (hooks k) list) sum is gains (IsInRows 20 (d + k)) (λ t m. absurd m)
+      labels_gained nat_eq_equiv same_number [] (replaced (hooks k) list) sum is gains (IsInRows 20 (d + k)) (λ t m. absurd m)
       (labels_replaced (hooks k) (IsInRows 20 (d + k)) list
       (λ t m. hooks_within k t.0 one (omega arith) (within t m) d (are.within t m).cells));
   few =
-      let m = gains_mass same_set nat_eq_equiv [] (replaced (hooks k) list) sum is gains in
+      let m = gains_mass same_number nat_eq_equiv [] (replaced (hooks k) list) sum is gains in
       let r = hooks_mass k list one (omega arith) within in
       let f = mul-le-mul_right 20 are.few in
       let t = twenty_more d k one in
@@ -380,7 +381,7 @@ hook_alone k set b new c number times e f g =
 -- if |c| ≥ 2^127, adding c, with the sign of the rim hook, to the coefficient of the set in which the bead has moved from b to b + k overflows
 pub hook_past : (k set b : ℕ) (c : ℤ) (old : WholeTermsOf ℕ) → 2 ^ 127 ≤ nat_abs c → Overflows nat_eq old (scaled c (hook_from k set b ∷ []))
 hook_past k set b c old l =
-    overflows_alone nat_eq_equiv same_set old (set - 2 ^ b + 2 ^ (b + k)) (c *ℤ minus_one_to (passed k set b))
+    overflows_alone nat_eq_equiv same_number old (set - 2 ^ b + 2 ^ (b + k)) (c *ℤ minus_one_to (passed k set b))
     (let s = nat_abs-product c (minus_one_to (passed k set b)) in let o = sign_size (passed k set b) in let d = ap (λ n. nat_abs c * n) o in let e : nat_abs c * 1 ≡ nat_abs c = omega arith in omega arith)
 
 -- let `set` have 20 numbers and a partition of at most 20 - k cells: the next place b of the loop over the beads that can move up by k places

@@ -23,11 +23,11 @@ use Rattle.sym_model.proofs.GreatestCommonDivisors.{IsGcd-gcd}
 use Rattle.sym_model.proofs.Orders.{is_reduced-tells, is_label-tells}
 use Rattle.sym_model.proofs.Sums.{Among-map, Among_from_map}
 use Rattle.monomial_laws.proofs.WeightBounds.{lcm-positive}
-use Rattle.coeff_rings.specs.Fractions.{scaled as numerator_over, InLowestTerms}
-use Rattle.coeff_rings.specs.Proved.Divisors.{divides_other_factor, coprime_without, divisor_positive}
+use Rattle.fraction_laws.specs.Fractions.{scaled as numerator_over, InLowestTerms}
+use Rattle.fraction_laws.proofs.Divisors.{divides_other_factor, coprime_without, divisor_positive}
 use Rattle.linear_combinations.specs.Entries.{IsCombination, IsWholeTable}
 use Rattle.linear_combinations.specs.Gains.{over, mass, mass_at, scaled as gained_times, HaveLabels}
-use Rattle.linear_combinations.specs.Labels.{same_partition}
+use Rattle.linear_combinations.proofs.Labels.{same_partition}
 use Rattle.linear_combinations.proofs.Gains.{all_pairs, next_among, over_append, mass_at_append, overflows_both, scaled_over}
 use Rattle.linear_combinations.proofs.LowestTerms.{lowest-is_reduced}
 use Rattle.linear_combinations.proofs.Totals.{term-among}

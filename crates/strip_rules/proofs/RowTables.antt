@@ -20,7 +20,7 @@ use Rattle.monomial_laws.specs.MonomialProduct.{product_coefficient}
 use Rattle.strip_rules.specs.StripProduct.{placings}
 use Rattle.strip_rules.proofs.Placings.{placings-hold, placings-lists}
 use Rattle.linear_combinations.specs.Gains.{over, only, counted, replaced, HaveLabels, Gains, Overflows}
-use Rattle.linear_combinations.specs.Labels.{same_partition}
+use Rattle.linear_combinations.proofs.Labels.{same_partition}
 use Rattle.linear_combinations.proofs.Counted.{each_by-over, each_by-labels, counted_counts, replaced_at, replaced_mass}
 use Rattle.linear_combinations.proofs.Found.{coefficient_over, coefficient_gained, mass_overflows}
 use Rattle.linear_combinations.proofs.Masses.{label_held, labels_replaced}

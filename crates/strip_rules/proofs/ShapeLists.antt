@@ -2,7 +2,7 @@
 --     horizontal_list, vertical_list, hook_list    each list has the partitions that result from adding a strip or a rim hook, each once
 --     rows_around, shape_limits                    a partition with k more cells has at most k more rows
 --     height_positive                              the height of a rim hook is at least 1
---     among_next, next_on, so_far_on               the position of a loop in the list of partitions
+--     among_next                                   the next partition of a list in a loop is in the list
 use Rattle.std.proofs.Common.{◌≡◌, ℕ, suc, ◌+◌, ◌≤◌, List, [], ◌∷◌, ◌++◌, get_or, refl, subst, inl, arith, rules}
 use Rattle.sym_model.specs.Sum.{Among}
 use Rattle.sym_model.specs.Partition.{IsPartition, ArePositive, Holds, size, rows}

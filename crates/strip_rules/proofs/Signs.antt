@@ -10,13 +10,13 @@ use Rattle.sym_model.specs.PlaceOrders.{minus_one_to}
 use Rattle.sym_model.specs.Strip.{height}
 use Rattle.sym_model.specs.Expansion.{Fraction}
 use Rattle.beta_list_laws.proofs.NeighbourExchanges.{parity_of}
-use Rattle.coeff_rings.specs.Room.{magnitude}
-use Rattle.coeff_rings.specs.Answers.{AnswersNegation}
-use Rattle.coeff_rings.specs.Proved.Divisors.{quotient_positive}
+use Rattle.fraction_laws.specs.Room.{magnitude}
+use Rattle.fraction_laws.specs.Answers.{AnswersNegation}
+use Rattle.fraction_laws.proofs.Divisors.{quotient_positive}
 use Rattle.linear_combinations.specs.Cleared.{IsDenominator}
 use Rattle.strip_rules.specs.Adding.{IsSigned}
 use Rattle.sym_model.proofs.Ring.{product-one, product-negation, negation-product}
-use Rattle.coeff_rings.specs.Fractions.{scaled, fraction_negation}
+use Rattle.fraction_laws.specs.Fractions.{scaled, fraction_negation}
 use native.Mathlib.Nat.{mul-le-mul_left}
 
 pub signed_one : (c : Fraction) → IsSigned c (pos 1) c

@@ -9,12 +9,12 @@ use Rattle.std.specs.Cmp.Lexicographic.{pointwise, nat_list_eq_equiv}
 use Rattle.sym_model.specs.Canonical.{is_label}
 use Rattle.sym_model.specs.Expansion.{Fraction, Terms}
 use Rattle.sym_model.proofs.Integers.{nat_abs-product}
-use Rattle.coeff_rings.specs.Fractions.{scaled as numerator_over, whole, InLowestTerms, fraction_sum}
-use Rattle.coeff_rings.specs.Room.{magnitude}
-use Rattle.coeff_rings.specs.Answers.{AnswersSum}
+use Rattle.fraction_laws.specs.Fractions.{scaled as numerator_over, whole, InLowestTerms, fraction_sum}
+use Rattle.fraction_laws.specs.Room.{magnitude}
+use Rattle.fraction_laws.specs.Answers.{AnswersSum}
 use Rattle.linear_combinations.specs.Entries
 use Rattle.linear_combinations.specs.Gains.{scaled}
-use Rattle.linear_combinations.specs.Labels.{same_partition}
+use Rattle.linear_combinations.proofs.Labels.{same_partition}
 use Rattle.linear_combinations.proofs.Gains.{overflows_alone}
 use Rattle.sparse_polys.specs.Combination.{terms_of}
 use Rattle.linear_combinations.specs.Cleared.{numerators_over, OverflowsCleared}

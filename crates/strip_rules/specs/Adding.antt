@@ -6,7 +6,7 @@ use Rattle.sym_model.specs.Polynomial.{Poly, pair, times}
 use Rattle.sym_model.specs.Schur.{schur}
 use Rattle.sym_model.specs.Expansion.{Fraction, Terms, IsExpansionOf, denominators, schurs, value}
 use Rattle.sym_model.specs.WholeTerms.{WholeTerms}
-use Rattle.coeff_rings.specs.Fractions.{scaled as numerator_over}
+use Rattle.fraction_laws.specs.Fractions.{scaled as numerator_over}
 use Rattle.linear_combinations.specs.Gains.{over, mass, mass_at, HaveLabels}
 
 -- as expansions in s, the list `product` is f times the list `list`, in every number of variables

@@ -1,7 +1,7 @@
 -- Strips added to a partition cell by cell, as moves of the beads of its beta set: there is a bead at each beta number, and a cell is added by moving
 -- a bead up by one place, to a place without a bead (James and Kerber, 2.7). The cells of a horizontal strip are added from left to right, by moves
--- from increasing places; those of a vertical strip from top to bottom, by moves from decreasing places. By the lemma `strip_cells` the resulting
--- sets are exactly those of the partitions that adding a strip gives, each once.
+-- from increasing places; those of a vertical strip from top to bottom, by moves from decreasing places. The resulting sets are those of the
+-- partitions that adding a strip gives, each once: by the lemma `strips_over` their Schur polynomials add up to the product with h_k or e_k.
 use Rattle.std.specs.Prelude.{ℕ, zero, suc, ◌+◌, ◌^◌, List, [], ◌∷◌, flat_map}
 use Rattle.beta_sets.specs.BetaSets.{numbers, free, from_place, below_place}
 use Rattle.strip_rules.specs.declared.bead_strips.Strip.{Strip}

@@ -1,22 +1,13 @@
 //! Adds rim hooks to partitions, by moving beads in their beta sets: there is a bead at the place b
 //! for each beta number b.
-ghost use Rattle.std.specs.Prelude.{◌≡◌, ◌+◌, ◌-◌, ◌*ℤ◌, ◌^◌, ◌<◌, ◌≤◌, [], ◌∷◌, nat_abs, nat_eq};
-ghost use Rattle.std.specs.Prelude.{OnOk, IsErrOf, MatchOption};
-ghost use Rattle.sym_model.specs.PlaceOrders.{minus_one_to};
+ghost use Rattle.std.specs.Prelude.{◌+◌, ◌-◌, ◌^◌, ◌<◌, ◌≤◌, [], ◌∷◌, nat_eq, OnOk, IsErrOf};
 ghost use Rattle.linear_combinations.specs.Gains.{Gains, Overflows, scaled};
 ghost use Rattle.strip_rules.specs.HookMoves.{hook_from};
 
-use beta_sets::{BetaSet, Shapes};
+use beta_sets::{BetaSet, Shapes, turned};
 use calc_base::SumFault;
-use coeff_rings::{Int, Ring};
+use coeff_rings::Int;
 use linear_combinations::Rule;
-
-/// (-1)^`times`·c; `None` only if the absolute value of c is 2^127 or more.
-fn turned(c: Int, times: u32) -> Option<Int>
-    ensures { MatchOption result (2 ^ 127 ≤ nat_abs c) (λ z. z ≡ minus_one_to times *ℤ c) }
-{
-    if times % 2 == 0 { Some(c) } else { c.neg() }
-}
 
 /// Adds c, times the sign of the rim hook, to the coefficient of the set that results if the bead
 /// at `place` moves up by `cells` places. Returns `Large` only if, at that set, the absolute values

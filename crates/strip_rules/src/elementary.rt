@@ -1,5 +1,5 @@
 //! Products of linear combinations of monomial symmetric polynomials (lists in m) and e_k.
-ghost use Rattle.std.specs.Prelude.{◌≡◌, ℕ, ◌+◌, ◌^◌, ◌≤◌, ◌*ℤ◌, pos, [], ◌∷◌, get_or};
+ghost use Rattle.std.specs.Prelude.{◌≡◌, ℕ, ◌+◌, ◌^◌, ◌≤◌, ◌*ℤ◌, pos, [], ◌∷◌};
 ghost use Rattle.std.specs.Prelude.{FitsSigned, MatchOption, IfOk, OnOk, IsErrOf};
 ghost use Rattle.std.specs.Int.{w128};
 ghost use Rattle.sym_model.specs.Bases.{elementary_of};
@@ -17,17 +17,10 @@ use crate::counts::{times_count, times_quotient};
 use calc_base::SumFault;
 use coeff_rings::{Int, Scalar};
 use linear_combinations::{Lin, Rule};
-use partitions::Partition;
+use partitions::{Partition, number_at};
 use skew_shapes::with_vertical_strip;
 use sparse_polys::Whole;
 use std::alloc::Global;
-
-/// The length of the row with the index `at`, counted from 0; 0 after the last row.
-fn row_at(rows: &[u16], at: usize) -> u16
-    ensures { result ≡ get_or rows.now at 0 }
-{
-    rows.get(at).copied().unwrap_or(0)
-}
 
 /// The coefficient of m_outer in m_inner·e_k, for a vertical strip outer/inner of k cells; `None`
 /// if it is 2^128 or more.
@@ -47,11 +40,11 @@ fn coefficient_at(inner: &Partition, outer: &Partition) -> Option<u128>
     for at in 0..rows.len() {
         let row = rows[at];
         run += 1;
-        if row_at(shorter, at) < row {
+        if number_at(shorter, at) < row {
             longer += 1;
             count = times_quotient(count, run, longer)?;
         }
-        if row_at(rows, at + 1) < row {
+        if number_at(rows, at + 1) < row {
             run = 0;
             longer = 0;
         }

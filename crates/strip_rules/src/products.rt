@@ -6,7 +6,7 @@ ghost use Rattle.sym_model.specs.Bases.{complete_of, elementary_of, power_sum_of
 ghost use Rattle.sym_model.specs.ListWeight.{list_weight};
 ghost use Rattle.sym_model.specs.Partition.{IsPartition, size, rows};
 ghost use Rattle.sym_model.specs.WholeTerms.{WholeTerms};
-ghost use Rattle.coeff_rings.specs.Fractions.{InLowestTerms};
+ghost use Rattle.fraction_laws.specs.Fractions.{InLowestTerms};
 ghost use Rattle.sparse_polys.specs.Combination.{terms_of};
 ghost use Rattle.sparse_polys.specs.MonomialProducts.{greatest_size};
 ghost use Rattle.sparse_polys.specs.Families.{polynomial_of};

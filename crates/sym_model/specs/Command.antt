@@ -18,8 +18,8 @@ pub data Command : Type 0 where
   -- tab outer inner after: the lattice tableaux of outer/inner; if `after` is Some column reading, only those listed
   -- after the tableau with this reading
   tab : List ℕ → List ℕ → Option (List ℕ) → Command
-  -- quantum rows columns factors: the product of the partitions `factors` in the quantum cohomology of the Grassmannian,
-  -- for partitions with at most `rows` rows and at most `columns` columns
+  -- quantum rows columns factors: the product of the partitions `factors` in `rows` variables, reduced by rim hooks of
+  -- rows + columns cells
   quantum : ℕ → ℕ → List (List ℕ) → Command
   -- fusion rows level factors: the fusion product of the partitions `factors` for this number of rows at this level
   fusion : ℕ → ℕ → List (List ℕ) → Command

@@ -2,9 +2,8 @@
 //! reading.
 ghost use Rattle.std.specs.Prelude.{◌≡◌, ℕ, ◌+◌, ◌<◌, ◌≤◌, ◌++◌, cond, map, length, IfOk, OnOk};
 ghost use Rattle.sym_model.specs.TableauList.{column_cells, reading_cells};
-ghost use Rattle.skew_shapes.specs.Rows.{reaches};
 
-use skew_shapes::Skew;
+use skew_shapes::{Skew, has_cell};
 use std::alloc::{AllocError, Global};
 
 /// For each cell in the order of the column reading, the number of its row if `of_row` is true, and
@@ -74,13 +73,4 @@ fn chosen(is_first: bool, first: u16, second: u16) -> u16
     ensures { result ≡ cond is_first first second }
 {
     if is_first { first } else { second }
-}
-
-/// Whether outer/inner has a cell in column `column` of row `row`, with rows counted from 0 and
-/// columns from 1.
-fn has_cell(outer: &[u16], inner: &[u16], row: usize, column: u16) -> bool
-    requires { row < length outer.now }
-    ensures { result ≡ reaches outer.now inner.now column (row + 1) }
-{
-    inner.get(row).copied().unwrap_or(0) < column && column <= outer[row]
 }

@@ -1,13 +1,14 @@
 //! The column reading of a filling given by its rows.
-ghost use Rattle.std.specs.Prelude.{◌≡◌, ◌<◌, ◌+◌, ◌++◌, ℕ, slice_index, OnOk, IfOk, map, length};
+ghost use Rattle.std.specs.Prelude.{◌≡◌, ◌<◌, ◌+◌, ◌++◌, ℕ, OnOk, IfOk, map, length};
 ghost use Rattle.sym_model.specs.GoodTableau.{column_reading};
 ghost use Rattle.sym_model.specs.Partition.{part};
 ghost use Rattle.sym_model.specs.Schur.{row_lengths};
 ghost use Rattle.sym_model.specs.TableauList.{column_cells, reading_cells};
-ghost use Rattle.skew_shapes.specs.Rows.{reaches};
 ghost use Rattle.tableau_iter.specs.ReadRows.{letter_in_rows};
 
 use calc_base::NoMemory;
+use partitions::number_at;
+use skew_shapes::has_cell;
 use std::alloc::{AllocError, Global};
 
 /// The part at the index `place`, counted from 0; 0 after the last part.
@@ -15,22 +16,6 @@ pub(crate) fn part_at(parts: &[u16], place: usize) -> u16
     ensures { result ≡ part parts.now (place + 1) }
 {
     parts.get(place).copied().unwrap_or(0)
-}
-
-/// Whether outer/inner has a cell in column `column` of row `row`, with rows counted from 0 and
-/// columns from 1.
-fn has_cell(outer: &[u16], inner: &[u16], row: usize, column: u16) -> bool
-    requires { row < length outer.now }
-    ensures { result ≡ reaches outer.now inner.now column (row + 1) }
-{
-    inner.get(row).copied().unwrap_or(0) < column && column <= outer[row]
-}
-
-/// The number at the index `place`; 0 after the last one.
-fn number_at(numbers: &[u16], place: usize) -> u16
-    ensures { result ≡ slice_index numbers.now place }
-{
-    numbers.get(place).copied().unwrap_or(0)
 }
 
 /// The number in column `column`, counted from 1, of row `row`, counted from 0, if the rows are

@@ -2,7 +2,7 @@
 -- x over the terms. The pairing of a polynomial with a function φ of exponents is the sum of b·φ(α) over its terms b·x^α.
 use Rattle.std.proofs.Common.{◌≡◌, Bool, true, pos, List, ℕ, ℤ, ◌*ℤ◌, sym, ap, ◌∙◌}
 use Rattle.std.specs.Cmp.{IsEquivalence}
-use Rattle.coeff_rings.specs.Fractions.{whole}
+use Rattle.fraction_laws.specs.Fractions.{whole}
 use Rattle.sym_model.specs.Polynomial.{Poly, Same, pair, scale}
 use Rattle.sym_model.specs.Expansion.{Terms, Represents, denominators, value_by}
 use Rattle.sym_model.specs.WholeTerms.{WholeTermsOf, as_fractions}

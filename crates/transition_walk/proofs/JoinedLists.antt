@@ -7,7 +7,7 @@
 use Rattle.std.proofs.Common.{◌≡◌, ℕ, ◌+◌, ◌<◌, ◌≤◌, Bool, true, List, [], ◌∷◌, ◌++◌, length, get_or, set, refl, sym, ap, ◌∙◌, subst, inl, inr, arith, ℤ, ◌+ℤ◌}
 use Rattle.std.specs.Cmp.{IsEquivalence}
 use Rattle.std.proofs.lemmas.Int.{ints}
-use Rattle.coeff_rings.specs.Fractions.{whole}
+use Rattle.fraction_laws.specs.Fractions.{whole}
 use Rattle.sym_model.specs.PlaceOrders.{inversions}
 use Rattle.sym_model.specs.Sum.{total, Among}
 use Rattle.sym_model.proofs.Sums.{total_append, Among-append_left, Among-append_right, Among-get_or, Among_from_append}

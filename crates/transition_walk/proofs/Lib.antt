@@ -5,7 +5,6 @@ pub mod SortedKeys
 pub mod WaitingOrder
 pub mod Weights
 pub mod Covers
-pub mod Labels
 pub mod Monomials
 pub mod Shares
 pub mod GivenLists

@@ -108,9 +108,3 @@ monomials_below n (suc k) w short below = monomials_by n k w (λ v s l. monomial
 
 pub schubert_monomials : (n : ℕ) (w : List ℕ) → IsShort n w → HasMonomials (schubert_in w n)
 schubert_monomials n w short = monomials_below n (suc (rank (suc n) w)) w short (omega arith)
-
-pub restrict_pair : (n : ℕ) (f : Poly) (φ : List ℕ → ℤ) → In n f → pair (restrict n f) φ ≡ pair f φ
-restrict_pair n f φ i =
-    pair_restrict n f φ
-    ∙ pair_in n f (λ α. cond (fits_in n α) (φ (resize n α)) (pos 0)) φ i
-    (λ α l. ap (λ b. cond b (φ (resize n α)) (pos 0)) (fits_in_length n α (omega arith)) ∙ ap φ (resize_same n α l))

@@ -21,13 +21,14 @@ use Rattle.schubert_laws.proofs.FixedLetters.{In_schubert}
 use Rattle.schubert_laws.proofs.Members.{short_cover, short_transition, place_within, cover_inversions}
 use Rattle.transition_walk.specs.Transitions.{IsShort}
 use Rattle.schubert_laws.proofs.LowerPermutations.{transition_inversions}
-use Rattle.transition_walk.proofs.Monomials.{unit, length-unit, pair_transition, pair_variable, restrict_pair, schubert_monomials}
+use Rattle.transition_walk.proofs.Monomials.{unit, length-unit, pair_transition, pair_variable, schubert_monomials}
 use Rattle.linear_combinations.specs.Gains.{WholeTermsOf, mass}
 use Rattle.transition_walk.specs.Growth.{GrowsBy, IsShare}
 use native.Mathlib.Nat.{mul-le-mul_left, pow-suc}
 use Rattle.sym_model.specs.Sum.{sum_by}
 use Rattle.linear_combinations.proofs.Weighed.{weighed_all}
 use Rattle.std.proofs.Math.Nat.{pow-zero, mul-pos}
+use Rattle.schubert_laws.proofs.IndependentSchuberts.{pair_restrict_whole}
 
 -- `ones n w`: the value of the Schubert polynomial of w in n variables with each variable 1
 abbrev pub ones : ℕ → List ℕ → ℕ
@@ -91,7 +92,7 @@ pub ones_limit : (w : List ℕ) → ones (length w) w ≡ nat_abs (value_at_ones
 ones_limit w =
     ap nat_abs
     (sym (pair_one_value (schubert_in w (length w)))
-    ∙ restrict_pair (length w) (polynomials.schubert w) (λ α. pos 1) (In_schubert w)
+    ∙ pair_restrict_whole (length w) (polynomials.schubert w) (λ α. pos 1) (In_schubert w)
     ∙ pair_one_value (polynomials.schubert w))
 
 -- ---- the shares S_w(1, .., 1)·base^l of permutations w

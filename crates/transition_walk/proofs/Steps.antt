@@ -9,7 +9,7 @@
 use Rattle.std.proofs.Common.{◌≡◌, ℕ, ◌+◌, ◌-◌, ◌*◌, ◌^◌, ◌<◌, ◌≤◌, Bool, true, List, [], ◌∷◌, ◌++◌, length, sym, ap, ◌∙◌, subst, inl, inr, arith, ℤ, ◌+ℤ◌, ◌*ℤ◌}
 use Rattle.std.proofs.lemmas.Int.{ints}
 use Rattle.std.proofs.lemmas.Bool.{and_parts}
-use Rattle.coeff_rings.specs.Fractions.{whole}
+use Rattle.fraction_laws.specs.Fractions.{whole}
 use Rattle.sym_model.specs.Permutation.{IsOneLine, IsTransition, times_swap, covers_down}
 use Rattle.sym_model.specs.PlaceOrders.{inversions}
 use Rattle.sym_model.specs.Sum.{total, Among}

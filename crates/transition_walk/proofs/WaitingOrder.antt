@@ -17,7 +17,7 @@ use Rattle.sym_model.proofs.Sums.{Among-map}
 use Rattle.transition_walk.specs.declared.todo.Waiting.{Waiting}
 use Rattle.transition_walk.specs.Todo.{waiting_order, permutations, AreInOrder, HasPermutation, IsGapFor}
 use Rattle.transition_walk.proofs.SortedKeys.{comparisons_rise, absent, keys_set, found_entry, sorted_insert, sorted_rest, sorted_one}
-use Rattle.linear_combinations.specs.Labels.{same_partition}
+use Rattle.linear_combinations.proofs.Labels.{same_partition}
 
 pub waiting_order-total : IsTotalOrder waiting_order
 waiting_order-total = then_total (on_total inversions nat_cmp_total) (back_total nat_list_cmp_total)

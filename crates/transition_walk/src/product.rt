@@ -1,7 +1,7 @@
 //! The product of a Schubert polynomial and the polynomial of a label, by the transition rule.
 ghost use Rattle.std.specs.Prelude.{◌≡◌, ℕ, ◌^◌, ◌≤◌, ℤ, pos, FitsSigned, List, IfOk, IsErrOf};
 ghost use Rattle.std.specs.Int.{w128};
-ghost use Rattle.coeff_rings.specs.Fractions.{whole};
+ghost use Rattle.fraction_laws.specs.Fractions.{whole};
 ghost use Rattle.linear_combinations.specs.Entries.{AreHeld, IsCombination};
 ghost use Rattle.sym_model.specs.Polynomial.{pair};
 ghost use Rattle.perm_codes.specs.Limits.{IsWithinLimits};

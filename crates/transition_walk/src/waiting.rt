@@ -5,7 +5,7 @@ ghost use Rattle.std.specs.Prelude.{OnOk, IsErrOf};
 ghost use Rattle.std.specs.Int.{w128};
 ghost use Rattle.sym_model.specs.Permutation.{IsTransition};
 ghost use Rattle.sym_model.specs.PlaceOrders.{inversions};
-ghost use Rattle.coeff_rings.specs.Fractions.{whole};
+ghost use Rattle.fraction_laws.specs.Fractions.{whole};
 ghost use Rattle.linear_combinations.specs.Entries.{AreHeld, IsCombination, IsTable};
 ghost use Rattle.linear_combinations.specs.Gains.{Gains, HaveLabels, Overflows, replaced};
 ghost use Rattle.linear_combinations.specs.Gains.{RefusesFirst};

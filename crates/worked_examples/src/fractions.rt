@@ -1,7 +1,7 @@
 //! Worked examples of fractions in lowest terms.
 ghost use Rattle.std.specs.Prelude.{◌≡◌, pos, negsuc};
-ghost use Rattle.coeff_rings.specs.Fractions.{fraction_sum, fraction_difference, fraction_product};
-ghost use Rattle.coeff_rings.specs.Fractions.{fraction_quotient};
+ghost use Rattle.fraction_laws.specs.Fractions.{fraction_sum, fraction_difference, fraction_product};
+ghost use Rattle.fraction_laws.specs.Fractions.{fraction_quotient};
 
 /// 1/6 + 1/3 = 1/2, 1/6 - 1/3 = -1/6, (-4/9)·(3/8) = -1/6, and (-1/3)/(-2/9) = 3/2.
 pub fn fraction_examples_law()

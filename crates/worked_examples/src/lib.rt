@@ -1,5 +1,5 @@
 //! Worked examples of the definitions of `sym_model`, of the words of commands, and of the
-//! fractions of `coeff_rings`. The check computes their values, so that a definition that does not
+//! fractions of `fraction_laws`. The check computes their values, so that a definition that does not
 //! say what it is meant to say is found here.
 //!
 //! A law function has an empty body: its contract is the examples.

@@ -2,7 +2,7 @@ use Rattle.std.proofs.lemmas.List.{take_rest}
 use Rattle.std.specs.Prelude.{drop}
 use Rattle.std.proofs.Common.{[], ◌≡◌, ◌+◌, ◌-◌, take, ◌*◌, ◌^◌, ◌≤◌, length, sym, ap, ◌∙◌, subst, Err, arith, ℕ, rules}
 use Rattle.sym_model.specs.Weight.{growth}
-use Rattle.sparse_polys.specs.Labels.{same_pair}
+use Rattle.linear_combinations.proofs.Labels.{same_pair}
 use Rattle.sparse_polys.specs.LabelSizes.{AreWithin}
 use Rattle.sparse_polys.specs.Families.{basis_in, polynomial_of}
 use Rattle.linear_combinations.specs.Gains.{HaveLabels, over, weighed}

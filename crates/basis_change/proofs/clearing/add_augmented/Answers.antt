@@ -1,5 +1,5 @@
 use Rattle.std.proofs.Common.{◌≤◌, ◌^◌, ◌/◌, ◌*ℤ◌, pos, nat_abs, ◌∙◌, [], ap, subst, rules}
-use Rattle.sparse_polys.specs.Labels.{same_pair}
+use Rattle.linear_combinations.proofs.Labels.{same_pair}
 use Rattle.linear_combinations.proofs.Gains.{overflows_alone}
 use Rattle.basis_change_laws.specs.AugmentedMonomial.{multiplicity_factorials}
 use Rattle.family_list_laws.proofs.PartQuotients.{multiplicities-positive}

@@ -3,7 +3,7 @@ use Rattle.std.proofs.Common.{◌∙◌, subst, arith, Err, append-nil, true}
 use Rattle.std.specs.Prelude.{nat_eq}
 use Rattle.std.proofs.lemmas.List.{take_rest}
 use Rattle.std.proofs.lemmas.Option.{slice_get_within}
-use Rattle.coeff_rings.specs.Fractions.{whole}
+use Rattle.fraction_laws.specs.Fractions.{whole}
 use Rattle.sym_model.specs.Bases.{has}
 use Rattle.sym_model.specs.Partition.{size}
 use Rattle.sym_model.specs.RaisedPart.{without_one, distinct}
@@ -86,7 +86,7 @@ returns-in_err-add_by-clause-small t c err =
     not_large parts c.requires.partition c.requires.low (done ++ (a, list) ∷ [])
     (distinct (drop (c.loop-at.at + 1) parts)) (some_items parts (sym c.if-is_empty.ensures))
     (listed-next parts c.loop-at.at done list c.loop-at-test.true
-    (ap (has a) (sym (take_rest parts (c.loop-at.at + 1))) ∙ sym c.if-has.ensures) inv.listed)
+    (ap (has a) (sym (take_rest parts (c.loop-at.at + 1))) ∙ sym c.if-has_part.ensures) inv.listed)
     (rests-next parts done (a, list) inv.rests (record { part = here; kept = kept }))
     (pairs_overflow hooked_lists hooked_lists-append done (a, list) [] c.loop-at.sum inv.gains
     nat_eq [] (done ++ (a, list) ∷ []) refl
@@ -110,7 +110,7 @@ loop-at-preserved t c =
       done ++ (a, list) ∷ [],
       record {
         listed = listed-next parts c.loop-at.at done list c.loop-at-test.true
-            (ap (has a) (sym (take_rest parts (c.loop-at.at + 1))) ∙ sym c.if-has.ensures)
+            (ap (has a) (sym (take_rest parts (c.loop-at.at + 1))) ∙ sym c.if-has_part.ensures)
             inv.listed;
         rests = rests-next parts done (a, list) inv.rests (record { part = here; kept = kept });
         gains = pairs_gain hooked_lists hooked_lists-append done (a, list) [] c.loop-at.sum

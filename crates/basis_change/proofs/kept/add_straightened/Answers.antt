@@ -4,7 +4,8 @@ use Rattle.std.specs.Cmp.{nat_eq_equiv}
 use Rattle.sym_model.specs.Partition.{size}
 use Rattle.family_lists.proofs.KeptLists.{list-found}
 use Rattle.linear_combinations.proofs.Masses.{labels_gained, on_both}
-use Rattle.beta_sets.specs.BetaSets.{IsInRows, same_set}
+use Rattle.beta_sets.specs.BetaSets.{IsInRows}
+use Rattle.linear_combinations.proofs.Labels.{same_number}
 use Rattle.beta_sets.proofs.BetaSets.{within_more}
 use Rattle.basis_change.specs.KeptLists.{IsKept}
 use Rattle.basis_change.proofs.TwentyRows.{wide-gains, wide-labels, wide-large}
@@ -38,7 +39,7 @@ returns-clause-within c =
     c.list_at.result.1.now c.in_ok-at.at refl c.in_ok-at.ensures.kept c.in_ok-at.ensures.place
     c.list_at.ensures in
     on_both c.add_by.result c.add_by.ensures.gains c.add_by.ensures.table
-    (λ gains table. labels_gained nat_eq_equiv same_set c.args.sum.now _ c.add_by.new.self table gains
+    (λ gains table. labels_gained nat_eq_equiv same_number c.args.sum.now _ c.add_by.new.self table gains
     (IsInRows 20 20) c.requires.within
     (wide-labels c.args.c c.args.parts.now (size c.args.parts.now) c.list_at.result.1.now kept c.requires.low
     (omega arith)))

@@ -1,6 +1,6 @@
 use Rattle.std.proofs.Common.{◌*ℤ◌, rules}
 use Rattle.basis_change_laws.specs.JoinedLists.{merged}
-use Rattle.sparse_polys.specs.Labels.{same_pair}
+use Rattle.linear_combinations.proofs.Labels.{same_pair}
 use Rattle.linear_combinations.proofs.Gains.{overflows_alone}
 use Rattle.family_lists.proofs.RowSteps.{limits-merged}
 use Rattle.basis_change.proofs.MixedLabels.{label_laws}

@@ -1,7 +1,7 @@
 use Rattle.std.proofs.Common.{sym, ◌∙◌, neg_ℤ}
 use Rattle.coeff_rings.proofs.Sizes.{refused_size}
 use Rattle.sym_model.specs.RaisedPart.{raise}
-use Rattle.sparse_polys.specs.Labels.{same_pair}
+use Rattle.linear_combinations.proofs.Labels.{same_pair}
 use Rattle.linear_combinations.proofs.Gains.{overflows_alone}
 use Rattle.basis_change.proofs.MixedLabels.{label_laws}
 use Rattle.basis_change.proofs.products.take_one.Goals as goal

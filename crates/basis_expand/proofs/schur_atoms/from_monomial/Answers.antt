@@ -1,5 +1,5 @@
 use Rattle.std.proofs.Common.{subst, List, ℕ, pos, rules}
-use Rattle.coeff_rings.specs.Fractions.{whole}
+use Rattle.fraction_laws.specs.Fractions.{whole}
 use Rattle.sym_model.specs.Expansion.{Fraction}
 use Rattle.sparse_polys.proofs.Coefficients.{if_answered}
 use Rattle.basis_expand.specs.SchurLists.{IsOneTerm}

@@ -1,5 +1,5 @@
 use Rattle.std.proofs.Common.{◌∙◌, ap, subst, [], to_z-of_z}
-use Rattle.coeff_rings.specs.Fractions.{lowest_terms}
+use Rattle.fraction_laws.specs.Fractions.{lowest_terms}
 use Rattle.sym_model.specs.Expansion.{Fraction}
 use Rattle.sparse_polys.proofs.Coefficients.{if_answered}
 use Rattle.basis_expand.specs.SchurLists.{IsOneTerm}

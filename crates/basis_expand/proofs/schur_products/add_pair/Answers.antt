@@ -5,7 +5,7 @@ use Rattle.std.specs.Int.{w128}
 use Rattle.std.specs.Vec.Iter.{into_iter_items}
 use Rattle.std.proofs.lemmas.Grind.{common_steps}
 use Rattle.std.proofs.lemmas.Result.{on_ok_weaker}
-use Rattle.coeff_rings.specs.Fractions.{scaled, whole, fraction_product}
+use Rattle.fraction_laws.specs.Fractions.{scaled, whole, fraction_product}
 use Rattle.sym_model.specs.Polynomial.{pair, times}
 use Rattle.sym_model.specs.Schur.{schur}
 use Rattle.sym_model.specs.WholeTerms.{WholeTerms}

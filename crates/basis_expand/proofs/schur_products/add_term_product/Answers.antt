@@ -5,8 +5,8 @@ use Rattle.std.specs.Map.Iter.{deref_pair}
 use Rattle.std.proofs.lemmas.List.{map-append}
 use Rattle.sym_model.specs.Expansion.{Terms, Fraction}
 use Rattle.sym_model.specs.Sum.{Among}
-use Rattle.coeff_rings.specs.Fractions.{scaled}
-use Rattle.coeff_rings.specs.Proved.Cleared.{product-cleared}
+use Rattle.fraction_laws.specs.Fractions.{scaled}
+use Rattle.fraction_laws.proofs.Cleared.{product-cleared}
 use Rattle.linear_combinations.specs.Cleared.{IsDenominator}
 use Rattle.linear_combinations.specs.Gains.{scaled as multiple}
 use Rattle.linear_combinations.proofs.Cleared.{Gains-none, Gains-both}

@@ -12,7 +12,7 @@ use Rattle.linear_combinations.proofs.Cleared.{denominator_among, AreCleared-not
 use Rattle.linear_combinations.proofs.Cleared.{Gains-both}
 use Rattle.linear_combinations.proofs.Gains.{all_pairs, next_among, so_far_next}
 use Rattle.sparse_polys.proofs.Steps.{all_done}
-use Rattle.coeff_rings.specs.Fractions.{scaled}
+use Rattle.fraction_laws.specs.Fractions.{scaled}
 use Rattle.basis_expand.specs.SchurLists.{row_at, products_at}
 use Rattle.basis_expand.proofs.ListProducts.{products_next, product-list}
 use Rattle.basis_expand.proofs.SchurTables.{ComeTo-both}

@@ -1,7 +1,7 @@
 use Rattle.std.proofs.Common.{[], ◌∷◌, ◌++◌, subst, rules}
 use Rattle.std.specs.Cmp.Lexicographic.{nat_list_eq_equiv}
 use Rattle.sym_model.specs.Polynomial.{Same}
-use Rattle.linear_combinations.specs.Labels.{same_partition}
+use Rattle.linear_combinations.proofs.Labels.{same_partition}
 use Rattle.linear_combinations.proofs.Found.{gains_same}
 use Rattle.linear_combinations.proofs.Gains.{gains_term}
 use Rattle.sparse_polys.proofs.WholeLists.{not_refused}

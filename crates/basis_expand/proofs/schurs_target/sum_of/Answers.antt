@@ -1,5 +1,5 @@
 use Rattle.std.proofs.Common.{◌∙◌}
-use Rattle.coeff_rings.specs.Proved.FractionLaws.{sum_comm}
+use Rattle.fraction_laws.proofs.FractionLaws.{sum_comm}
 use Rattle.sparse_polys.proofs.Coefficients.{if_answered}
 use Rattle.sparse_polys.specs.Products.{coefficient_at}
 use Rattle.basis_expand.proofs.schurs_target.sum_of.Goals as goal

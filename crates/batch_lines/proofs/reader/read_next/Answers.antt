@@ -1,6 +1,6 @@
 use Rattle.std.proofs.Common.{◌≡◌, ◌+◌, ◌≤◌, length, sym, ap, ◌∙◌, subst}
 use Rattle.batch_lines.specs.Reading.{next_at_end}
-use Rattle.batch_lines.proofs.NextLines.{ends, goes_on, stops, cuts}
+use Rattle.batch_lines.proofs.NextLines.{ends, goes_on, stops, cuts, runs_out}
 use Rattle.batch_lines.proofs.reader.read_next.Goals as goal
 
 pub returns-then-heard-clause-reads : goal.returns-then-heard-clause-reads
@@ -43,6 +43,9 @@ returns-in-Err-refill-clause-cuts g c =
       cuts _ c.in-Ok.heard r (c.in-Ok.ensures.heard r.text r.heard) c.if-heard.false
           c.in-Err-refill.ensures.kept,
     )
+
+pub returns-in-Err-clause-cuts : goal.returns-in-Err-clause-cuts
+returns-in-Err-clause-cuts g c = runs_out c.loop-heard.invariant.1 c.in-Err.ensures.few
 
 pub returns-then-heard-clause-little : goal.returns-then-heard-clause-little
 returns-then-heard-clause-little g c =

@@ -3,7 +3,7 @@ use Rattle.std.proofs.Common.{append_assoc, append-nil, arith, inl}
 use Rattle.std.specs.Vec.Iter.{into_iter_items}
 use Rattle.std.proofs.lemmas.Grind.{common_steps}
 use Rattle.std.proofs.lemmas.List.{map-append}
-use Rattle.coeff_rings.specs.Fractions.{lowest_terms}
+use Rattle.fraction_laws.specs.Fractions.{lowest_terms}
 use Rattle.sym_model.specs.Expansion.{Fraction}
 use Rattle.sym_model.specs.LabelLimits.{is_label}
 use Rattle.sym_model.specs.Sum.{Among}

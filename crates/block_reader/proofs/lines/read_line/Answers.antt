@@ -2,8 +2,8 @@ use Rattle.std.proofs.Common.{◌≡◌, ◌≢◌, true, false, [], ◌∷◌, 
 use Rattle.std.proofs.Common.{FitsSigned, to_z, of_z, to_z-of_z}
 use Rattle.std.specs.Int.{w128}
 use Rattle.sym_model.specs.NumberText.{signed_value}
-use Rattle.coeff_rings.specs.Fractions.{whole}
-use Rattle.coeff_rings.specs.Proved.Whole.{same_whole}
+use Rattle.fraction_laws.specs.Fractions.{whole}
+use Rattle.fraction_laws.proofs.Whole.{same_whole}
 use Rattle.block_reader.specs.Parts.{denominator_after}
 use Rattle.block_reader.specs.Fitting.{fits, all_fit}
 use Rattle.block_reader.proofs.FittingTerms.{line-told, term-large, term-nothing, term-unfit}

@@ -149,11 +149,15 @@ returns-in-Err-SourceFault g c =
 
 pub returns-in-Err-NoMemory : goal.returns-in-Err-NoMemory
 returns-in-Err-NoMemory g c =
-    ends_full (c.loop-reader.sink ≡ c.args.sink.now) c.loop-reader.invariant
+    ends_full (c.finished-in-Err-NoMemory.new.sink ≡ c.args.sink.now) c.loop-reader.invariant
+    (subst (λ (f : LineFault). CutsTurn (g.S.Source.seen c.loop-reader.source).left
+    (g.S.Source.seen c.next_turn.new.source).left
+    c.loop-reader.reader.pending c.loop-reader.reader.has_ended (Err f))
+    c.in-Err-NoMemory.field-0-is c.in-Err-NoMemory.ensures.cuts)
     (subst (λ (f : LineFault). CountsTurn (g.S.Source.seen c.loop-reader.source).faults
     (g.S.Source.seen c.next_turn.new.source).faults (Err f))
     c.in-Err-NoMemory.field-0-is c.in-Err-NoMemory.ensures.counts)
-    c.in-Err-NoMemory.ensures.took
+    c.finished-in-Err-NoMemory.ensures
 
 pub next_turn-requires : goal.next_turn-requires
 next_turn-requires g c =

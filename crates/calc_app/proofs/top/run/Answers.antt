@@ -1,6 +1,6 @@
-use Rattle.std.proofs.Common.{◌≡◌, map, ap}
+use Rattle.std.proofs.Common.{◌≡◌, map, ap, refl}
 use Rattle.std.specs.Prelude.{string_bytes}
-use Rattle.calc_app.proofs.Ends.{Ran, task_is, put_ran, lines_ran}
+use Rattle.calc_app.proofs.Ends.{Ran, task_is, put_ran, lines_ran, kept_told}
 use Rattle.calc_app.proofs.WorkSums.{work_ran, seed_within}
 use Rattle.calc_app.proofs.top.run.Given.{Over}
 use Rattle.calc_app.proofs.top.run.Goals as goal
@@ -116,3 +116,15 @@ work-requires g c = seed_within (map string_bytes c.args.words.now) c.in-Ok-Work
     c.in-Ok-Workload.seed (task_is c.in-Ok-Workload.field-0-is c.in-Ok-Workload.ensures.computes
     c.in-Ok-Workload.ensures.accepts c.in-Ok-Workload.ensures.refuses
     c.in-Ok-Workload.ensures.goes_wrong).computes
+
+pub returns-in-Ok-Lines-clause-told : goal.returns-in-Ok-Lines-clause-told
+returns-in-Ok-Lines-clause-told g c =
+    kept_told _ _ _ c.batch.result (lines g c).leaves (ap g.K.Sink.seen) c.batch.ensures.told
+
+pub returns-in-Ok-Put-clause-told : goal.returns-in-Ok-Put-clause-told
+returns-in-Ok-Put-clause-told g c =
+    kept_told _ _ _ c.put_outcome.result (put g c).leaves (ap g.K.Sink.seen) refl
+
+pub returns-in-Ok-Workload-clause-told : goal.returns-in-Ok-Workload-clause-told
+returns-in-Ok-Workload-clause-told g c =
+    kept_told _ _ _ c.work.result (worked g c).leaves (ap g.K.Sink.seen) refl

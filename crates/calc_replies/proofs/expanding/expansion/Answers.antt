@@ -1,6 +1,6 @@
 use Rattle.std.proofs.lemmas.Cmp.{nat_list_eq_equiv}
 use Rattle.sym_model.specs.Expansion.{basis_polynomial}
-use Rattle.sparse_polys.specs.Labels.{same_partition}
+use Rattle.linear_combinations.proofs.Labels.{same_partition}
 use Rattle.sparse_polys.proofs.Values.{represents-same_coefficients}
 use Rattle.expression_reading.specs.Trees.{basis_of}
 use Rattle.calc_replies.proofs.expanding.expansion.Goals as goal

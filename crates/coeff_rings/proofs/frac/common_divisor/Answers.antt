@@ -1,6 +1,6 @@
 use Rattle.std.proofs.Common.{arith, sym}
 use Rattle.std.proofs.lemmas.Nat.Gcd.{IsGcd-from_zero, IsGcd-from_mod}
-use Rattle.coeff_rings.specs.Proved.Divisors.{greatest_common_divisor-is, divisor_positive}
+use Rattle.fraction_laws.proofs.Divisors.{greatest_common_divisor-is, divisor_positive}
 use Rattle.coeff_rings.proofs.frac.common_divisor.Goals as goal
 
 pub loop-y-preserved : goal.loop-y-preserved

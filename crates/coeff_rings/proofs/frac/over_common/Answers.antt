@@ -2,7 +2,7 @@ use Rattle.std.proofs.Common.{arith, ap, ℕ, ℤ, ◌≡◌, ◌<◌, ◌^◌, 
 use Rattle.std.proofs.Common.{◌∙◌}
 use Rattle.std.specs.Int.{w128}
 use Rattle.sym_model.specs.Expansion.{Fraction}
-use Rattle.coeff_rings.specs.Checked.{common_denominator}
+use Rattle.fraction_laws.specs.Checked.{common_denominator}
 use Rattle.coeff_rings.specs.declared.frac.Common.{Common}
 use Rattle.coeff_rings.proofs.FractionSteps.{numerator-same, denominator-same, divisor-same}
 use Rattle.coeff_rings.proofs.FractionSteps.{numerator-left, numerator-right, denominator-common}

@@ -1,10 +1,10 @@
 use Rattle.std.proofs.Common.{◌≡◌, ℕ, to_z-of_z, ap, ◌∙◌, subst, unsigned_abs, ℤ, pos, int_lt}
 use Rattle.std.specs.Int.{IsGcd, ◌∣◌}
 use native.Mathlib.Nat.{pos_of_dvd_of_pos}
-use Rattle.coeff_rings.specs.Fractions.{lowest_terms}
+use Rattle.fraction_laws.specs.Fractions.{lowest_terms}
 use Rattle.coeff_rings.specs.Signs.{signed}
-use Rattle.coeff_rings.specs.Checked.{checked_fraction}
-use Rattle.coeff_rings.specs.Proved.Divisors.{coprime_from, coprime_without, quotient_positive}
+use Rattle.fraction_laws.specs.Checked.{checked_fraction}
+use Rattle.fraction_laws.proofs.Divisors.{coprime_from, coprime_without, quotient_positive}
 use Rattle.coeff_rings.proofs.CommonDivisors.{IsGcd-by_factor}
 use Rattle.coeff_rings.proofs.FractionSteps.{IsFraction-coprime, checked_fraction-coprime}
 use Rattle.coeff_rings.proofs.Sizes.{lowest_terms-sizes, signed_self}

@@ -1,6 +1,6 @@
 use Rattle.std.proofs.Common.{◌∙◌, ap}
-use Rattle.coeff_rings.specs.Checked.{checked_fraction}
-use Rattle.coeff_rings.specs.Proved.Divisors.{quotient_positive, coprime_without}
+use Rattle.fraction_laws.specs.Checked.{checked_fraction}
+use Rattle.fraction_laws.proofs.Divisors.{quotient_positive, coprime_without}
 use Rattle.coeff_rings.proofs.Sizes.{lowest_terms-sizes}
 use Rattle.coeff_rings.proofs.frac.reduced.Goals as goal
 

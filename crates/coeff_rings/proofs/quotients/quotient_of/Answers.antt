@@ -2,8 +2,8 @@ use Rattle.std.proofs.Common.{◌≡◌, ℤ, sym, ◌∙◌, ap, ap₂, subst, 
 use Rattle.std.specs.Prelude.{IsSome, FitsSigned}
 use Rattle.std.specs.Int.{w128}
 use Rattle.std.proofs.lemmas.Int.{to_z_pos}
-use Rattle.coeff_rings.specs.Fractions.{lowest_terms}
-use Rattle.coeff_rings.specs.Checked.{checked_fraction_of}
+use Rattle.fraction_laws.specs.Fractions.{lowest_terms}
+use Rattle.fraction_laws.specs.Checked.{checked_fraction_of}
 use Rattle.coeff_rings.proofs.LowestTerms.{checked-quotient}
 use Rattle.coeff_rings.proofs.quotients.quotient_of.Goals as goal
 

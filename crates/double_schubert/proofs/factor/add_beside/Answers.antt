@@ -4,7 +4,7 @@ use Rattle.std.specs.Prelude.{Err}
 use Rattle.linear_combinations.proofs.Steps.{error_is}
 use Rattle.linear_combinations.specs.Gains.{Gains, Overflows}
 use Rattle.linear_combinations.proofs.Gains.{gains_none, places_gain, places_overflow}
-use Rattle.double_schubert.specs.Shifts.{equal, each_beside}
+use Rattle.transition_laws.specs.Shifts.{equal, each_beside}
 use Rattle.double_schubert.proofs.FactorGains.{beside_append}
 use Rattle.double_schubert.proofs.factor.add_beside.Goals as goal
 

@@ -1,6 +1,6 @@
 use Rattle.std.proofs.Common.{take}
 use Rattle.linear_combinations.specs.Gains.{Gains}
-use Rattle.double_schubert.specs.Shifts.{each_beside}
+use Rattle.transition_laws.specs.Shifts.{each_beside}
 use Rattle.double_schubert.proofs.factor.add_beside.Given as goal
 
 -- k has been added at the label (v, y) for each permutation v visited so far

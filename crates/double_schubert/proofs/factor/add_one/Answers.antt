@@ -1,6 +1,6 @@
 use Rattle.std.proofs.Common.{List, ℕ, [], ◌∷◌, subst}
 use Rattle.linear_combinations.specs.Gains.{Gains, Overflows}
-use Rattle.double_schubert.specs.Shifts.{equal}
+use Rattle.transition_laws.specs.Shifts.{equal}
 use Rattle.double_schubert.proofs.factor.add_one.Goals as goal
 use Rattle.std.proofs.lemmas.Result.{on_ok_weaker}
 

@@ -3,12 +3,12 @@ use Rattle.std.specs.Prelude.{Err}
 use Rattle.sym_model.specs.DoubleSchubert.{difference_in, shifted_in}
 use Rattle.sym_model.specs.Polynomial.{pair, times}
 use Rattle.sym_model.specs.WholeTerms.{combined}
-use Rattle.sparse_polys.specs.Labels.{same_pair}
+use Rattle.linear_combinations.proofs.Labels.{same_pair}
 use Rattle.linear_combinations.proofs.Steps.{error_is}
 use Rattle.linear_combinations.specs.Gains.{over, mass, replaced, HaveLabels}
 use Rattle.linear_combinations.proofs.Masses.{overflow_mass, represents_sums, weight_is}
 use Rattle.linear_combinations.proofs.Masses.{weight_grows}
-use Rattle.double_schubert.specs.Shifts.{ShiftedSum, IsWithin, equal, factor_terms, greatest_length}
+use Rattle.transition_laws.specs.Shifts.{ShiftedSum, IsWithin, equal, factor_terms, greatest_length}
 use Rattle.double_schubert.proofs.FactorGains.{label_laws, over_product, product_mass}
 use Rattle.double_schubert.proofs.FactorGains.{product_labels, pair_product, longest}
 use Rattle.double_schubert.proofs.factor.times_factor.Goals as goal

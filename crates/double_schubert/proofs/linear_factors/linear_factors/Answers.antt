@@ -13,7 +13,7 @@ use Rattle.schubert_laws.proofs.Ranks.{letter_counts}
 use Rattle.double_schubert_laws.proofs.DoubleFromOne.{letter_small}
 use Rattle.double_schubert_laws.proofs.DoubleVariables.{identity_double}
 use Rattle.transition_walk.specs.Transitions.{IsShort}
-use Rattle.transition_walk.proofs.Labels.{one_one_line}
+use Rattle.schubert_laws.proofs.PermutationLabels.{one_one_line}
 use Rattle.double_schubert.specs.LinearFactors.{IsFactorWithin, AreWithin, IsOnlyLower, product_with, product_in}
 use Rattle.double_schubert.proofs.LinearProducts.{product_respects, product_last, single_lower}
 use Rattle.double_schubert.proofs.linear_factors.linear_factors.Goals as goal

@@ -3,7 +3,7 @@ use Rattle.sym_model.specs.DoubleSchubert.{double_schubert_in, shifted_in}
 use Rattle.sym_model.specs.Polynomial.{pair, times}
 use Rattle.double_schubert_laws.specs.Factors.{acted}
 use Rattle.double_schubert_laws.proofs.ProductSteps.{product_start}
-use Rattle.sparse_polys.specs.Labels.{same_pair}
+use Rattle.linear_combinations.proofs.Labels.{same_pair}
 use Rattle.linear_combinations.proofs.Masses.{over_same, represents_sums}
 use Rattle.double_schubert.proofs.FactorGains.{label_laws}
 use Rattle.double_schubert.proofs.product.act_by_transitions.Goals as goal

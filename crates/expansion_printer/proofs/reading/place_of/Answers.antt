@@ -1,6 +1,6 @@
-use Rattle.std.proofs.Common.{◌≡◌, ◌+◌, nat_lt, refl, ◌∙◌, ap, ap₂, arith}
+use Rattle.std.proofs.Common.{◌≡◌, ◌+◌, nat_lt, refl, ◌∙◌, ap, ap₂, arith, rules}
 use Rattle.std.specs.Prelude.{slice_index}
-use Rattle.sym_model.specs.Partition.{after, part, rows}
+use Rattle.sym_model.specs.Partition.{Falls, after, part, rows}
 use Rattle.expansion_printer.specs.ReadingPlaces.{before_in_row}
 use Rattle.expansion_printer.proofs.ReadingCells.{cells_in_rows, cells_in_rows-more, letter-is}
 use Rattle.expansion_printer.proofs.reading.place_of.Goals as goal
@@ -15,10 +15,8 @@ loop-at-preserved c =
     let row = c.args.row in
     let column = c.args.column in
     let at = c.loop-at.at in
-    let left : c.part-left.result ≡ part inner (at + 1) = c.part-left.ensures.value
-    ∙ ap (λ p. part p (at + 1)) c.inner.ensures.value in
-    let right : c.part-right.result ≡ part outer (at + 1) = c.part-right.ensures.value
-    ∙ ap (λ p. part p (at + 1)) c.outer-in-loop-at.ensures.value in
+    let left : c.part-left.result ≡ part inner (at + 1) = cc in
+    let right : c.part-right.result ≡ part outer (at + 1) = cc in
     record {
       counted = ap₂ ◌+◌ c.loop-at.invariant.counted
           (c.from-before.ensures ∙ c.cells_before.ensures
@@ -30,15 +28,9 @@ loop-at-preserved c =
 pub returns : goal.returns
 returns c = λ w.
     let outer = c.args.shape.now.0 in
-    let all : c.loop-at.at ≡ rows outer =
-    omega (
-      arith,
-      c.loop-at.auto.at-end,
-      c.loop-at-test.false,
-      c.rows-at-end.ensures.value
-          ∙ ap rows c.outer.ensures.value,
-    ) in
+    let count : c.rows-at-end.result ≡ rows outer = cc in
+    let all : c.loop-at.at ≡ rows outer = omega arith in
+    let falls : Falls outer = search rules in
     ap (slice_index w) (c.loop-at.invariant.counted
     ∙ ap (λ k. cells_in_rows outer c.args.shape.now.1 c.args.row c.args.column (after 0 k)) all)
-    ∙ letter-is outer c.args.shape.now.1 c.args.row c.args.column
-    c.outer.ensures.limits.outside.partition.falls c.requires w
+    ∙ letter-is outer c.args.shape.now.1 c.args.row c.args.column falls c.requires w

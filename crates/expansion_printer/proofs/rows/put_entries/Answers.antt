@@ -1,9 +1,9 @@
-use Rattle.std.proofs.Common.{◌≡◌, ◌≤◌, ℕ, List, ◌+◌, ◌-◌, ◌++◌, ◌==◌, ap, ◌∙◌, cond, map, arith}
+use Rattle.std.proofs.Common.{◌≡◌, ◌≤◌, ℕ, ◌+◌, ◌-◌, ap, ◌∙◌, map, arith}
 use Rattle.std.specs.Prelude.{codes, decimal}
 use Rattle.expansion_printer.proofs.GatheringLaws.{Gathers-then, Gathers-as, Gathers-nothing}
 use Rattle.sym_model.specs.Partition.{after, part}
 use Rattle.sym_model.specs.TableauText.{separated, spaced}
-use Rattle.expansion_printer.proofs.RowTexts.{pieces-more, spaced-map}
+use Rattle.expansion_printer.proofs.RowTexts.{Gathers-piece, pieces-more, spaced-map}
 use Rattle.expansion_printer.proofs.rows.put_entries.Goals as goal
 
 pub loop-column-init : goal.loop-column-init
@@ -20,7 +20,6 @@ loop-column-preserved g c =
     let left = c.args.left in
     let at : ℕ = c.loop-column.column - left in
     let entry : ℕ → ℕ = g.E.Entries.entry c.args.filling.now c.args.row in
-    let piece : ℕ → ℕ → List ℕ = λ k n. cond (k == 0) (decimal n) (codes " " ++ decimal n) in
     let far : left ≤ c.loop-column.column = c.loop-column.auto.column in
     let next : c.loop-column.column + 1 ≡ left + at + 1 = omega arith in
     let more : at + 1 ≡ c.loop-column.column + 1 - left = omega arith in
@@ -28,8 +27,7 @@ loop-column-preserved g c =
     at (c.loop-column.column + 1) next
     ∙ ap (λ k. separated (codes " ") (map (λ column. decimal (entry column)) (after left k))) more)
     (Gathers-then c.loop-column.invariant
-    (Gathers-as (ap (λ k. piece k c.from-entry.result) c.from.ensures
-    ∙ ap (piece at) (c.from-entry.ensures ∙ c.entry.ensures)) c.put_piece.ensures))
+    (Gathers-piece (codes " ") at (entry (c.loop-column.column + 1)) c.put_piece.ensures (cc) (cc)))
 
 pub returns : goal.returns
 returns g c =

@@ -23,11 +23,9 @@ pub returns : goal.returns
 returns g c =
     let filling = c.args.filling.now in
     let outer = g.E.Entries.outer filling in
-    let count : c.rows-rows.result ≡ rows outer = c.rows-rows.ensures.value
-    ∙ ap rows c.outer.ensures.value in
-    let all : c.loop-at.at ≡ rows outer = omega (arith, c.loop-at.auto.at-end, c.loop-at-test.false)
-    in
-    let some : 0 < c.loop-at.at = omega (arith, c.if-rows-eq0.false) in
+    let count : c.rows-rows.result ≡ rows outer = cc in
+    let all : c.loop-at.at ≡ rows outer = omega arith in
+    let some : 0 < c.loop-at.at = omega arith in
     Gathers-as (tableau_text-some (g.E.Entries.entry filling) outer (g.E.Entries.inner filling)
     c.loop-at.at all some
-    ∙ ap tableau_text c.outer.ensures.rows) c.loop-at.invariant
+    ∙ ap tableau_text cc) c.loop-at.invariant

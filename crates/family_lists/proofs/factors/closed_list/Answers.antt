@@ -1,5 +1,5 @@
 use Rattle.std.proofs.Common.{◌≡◌, refl, List, ℕ, [], ◌∷◌, ◌++◌, sym, subst, ap, ◌∙◌, arith, Err}
-use Rattle.coeff_rings.specs.Fractions.{whole}
+use Rattle.fraction_laws.specs.Fractions.{whole}
 use Rattle.sym_model.specs.Polynomial.{Same}
 use Rattle.sym_model.specs.Partition.{size}
 use Rattle.sym_model.specs.PartitionList.{partitions_of}

@@ -1,6 +1,6 @@
 use Rattle.std.proofs.Common.{List, ℕ, sym, ap, ◌∙◌, refl, inl, inr}
 use Rattle.std.specs.Prelude.{Some, slice_get}
-use Rattle.linear_combinations.specs.Labels.{same_partition}
+use Rattle.linear_combinations.proofs.Labels.{same_partition}
 use Rattle.family_lists.proofs.KeptLists.{entry_found, none_found, slice-last}
 use Rattle.family_lists.proofs.kept.keep.Goals as goal
 

@@ -2,7 +2,7 @@ use Rattle.std.proofs.Common.{◌≡◌, [], ◌∷◌, ap₂, sym, subst, ◌�
 use Rattle.std.specs.Cmp.Lexicographic.{nat_list_eq_equiv}
 use Rattle.sym_model.specs.WholeTerms.{WholeTerms}
 use Rattle.linear_combinations.specs.Gains.{Gains, Overflows}
-use Rattle.linear_combinations.specs.Labels.{same_partition}
+use Rattle.linear_combinations.proofs.Labels.{same_partition}
 use Rattle.linear_combinations.proofs.Gains.{overflows_alone}
 use Rattle.partitions.specs.Limits.{IsWithinLimits}
 use Rattle.sparse_polys.specs.Tables.{equal}

@@ -2,7 +2,7 @@ use Rattle.std.proofs.Common.{ℕ, ℤ, List, ◌+◌, ◌≤◌, ap, sym, subst
 use Rattle.std.specs.Cmp.Lexicographic.{nat_list_eq_equiv}
 use Rattle.sym_model.specs.Partition.{size, rows}
 use Rattle.linear_combinations.specs.Gains.{HaveLabels}
-use Rattle.linear_combinations.specs.Labels.{same_partition}
+use Rattle.linear_combinations.proofs.Labels.{same_partition}
 use Rattle.linear_combinations.proofs.Masses.{labels_gained}
 use Rattle.library_rows.proofs.strips.one_cell.Goals as goal
 

@@ -1,7 +1,7 @@
 use Rattle.std.proofs.Common.{◌≢◌, pos}
 use Rattle.std.specs.Prelude.{Some}
 use Rattle.std.proofs.lemmas.Bool.{and_from}
-use Rattle.coeff_rings.specs.Fractions.{whole}
+use Rattle.fraction_laws.specs.Fractions.{whole}
 use Rattle.linear_combinations.proofs.LowestTerms.{is_reduced-lowest}
 use Rattle.linear_combinations.proofs.Tables.{IsCombination-put, held_found}
 use Rattle.linear_combinations.proofs.lin.insert_new.Goals as goal

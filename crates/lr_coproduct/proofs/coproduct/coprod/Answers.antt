@@ -2,7 +2,7 @@ use Rattle.std.proofs.Common.{◌≡◌, ℕ, List, ◌+◌, length, take, ap, s
 use Rattle.std.proofs.Common.{pos, flat_map}
 use Rattle.std.specs.Prelude.{None, Err, false}
 use Rattle.std.proofs.lemmas.List.{take_all}
-use Rattle.coeff_rings.specs.Fractions.{whole}
+use Rattle.fraction_laws.specs.Fractions.{whole}
 use Rattle.sym_model.specs.Sum.{Among}
 use Rattle.sym_model.specs.Polynomial.{Same}
 use Rattle.sym_model.specs.GoodTableau.{skew_count}

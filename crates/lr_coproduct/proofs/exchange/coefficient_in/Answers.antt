@@ -1,6 +1,6 @@
 use Rattle.std.proofs.Common.{◌≡◌, ℕ, ℤ, List, rules, of_calls, sym, ap, ◌∙◌, subst, pos}
 use Rattle.std.proofs.lemmas.Fn.{always_returns_same}
-use Rattle.coeff_rings.specs.Fractions.{whole}
+use Rattle.fraction_laws.specs.Fractions.{whole}
 use Rattle.sym_model.specs.Polynomial.{coefficient}
 use Rattle.sym_model.specs.LabelLimits.{is_label}
 use Rattle.sym_model.specs.PrintedOrder.{printed_order}

@@ -1,6 +1,6 @@
 use Rattle.std.proofs.Common.{ℕ, ℤ, List, length, take, sym, subst, arith}
 use Rattle.std.specs.Prelude.{None, false}
-use Rattle.coeff_rings.specs.Fractions.{whole}
+use Rattle.fraction_laws.specs.Fractions.{whole}
 use Rattle.sym_model.specs.LabelLimits.{is_label}
 use Rattle.sym_model.specs.Partition.{size}
 use Rattle.sym_model.specs.PrintedOrder.{printed_order}

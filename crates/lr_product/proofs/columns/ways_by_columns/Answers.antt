@@ -1,5 +1,4 @@
-use Rattle.std.proofs.Common.{◌-◌, refl, arith, rules}
-use Rattle.sym_model.specs.Partition.{size}
+use Rattle.std.proofs.Common.{refl, arith, rules}
 use Rattle.tableau_laws.specs.ColumnFold.{column_lines}
 use Rattle.linear_combinations.proofs.Steps.{if_answered}
 use Rattle.lr_product.specs.WeighedSum.{over_states}

@@ -1,8 +1,13 @@
 use Rattle.std.proofs.Common.{sym, subst, rules}
 use Rattle.lr_product.specs.WeighedSum.{weighed, comes_to}
 use Rattle.lr_product.specs.Counts.{HasCounts}
-use Rattle.lr_product.proofs.Placed.{canonical_counts, canonical_small}
+use Rattle.lr_product.proofs.Placed.{canonical_counts, canonical_small, past_at}
 use Rattle.lr_product.proofs.counts.terms_of_table.Goals as goal
+
+pub returns-in_err-refuse_large-clause-large : goal.returns-in_err-refuse_large-clause-large
+returns-in_err-refuse_large-clause-large c = λ e.
+    let h = c.in_err-refuse_large.ensures.large in
+    past_at c.args.letters c.args.table.entries h.0 c.requires.reached h.1
 
 pub returns-in-Some-clause-counts : goal.returns-in-Some-clause-counts
 returns-in-Some-clause-counts c =

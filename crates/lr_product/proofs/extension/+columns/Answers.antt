@@ -7,7 +7,6 @@ use Rattle.sym_model.specs.Sum.{sum_by}
 use Rattle.lr_product.specs.Capped.{Agree}
 use Rattle.lr_product.specs.WeighedSum.{weighed}
 use Rattle.lr_product.specs.Extension.{numbers_from, raised, mark, can_rise, extended}
-use Rattle.lr_product.specs.Extension.{least_letter}
 use Rattle.lr_product.specs.MarksFree.{MarksFree}
 use Rattle.lr_product.proofs.FreeLetters.{above_place, marks-narrowed}
 use Rattle.lr_product.proofs.Raising.{index-size, size-raised, length-placed, width_placed}

@@ -1,4 +1,4 @@
-use Rattle.std.proofs.Common.{◌-◌, rules}
+use Rattle.std.proofs.Common.{rules}
 use Rattle.lr_product.proofs.Raising.{size-raised, length-placed, width_placed}
 use Rattle.lr_product.proofs.Agreeing.{agree_then, agree_same}
 use Rattle.lr_product.proofs.Pruned.{falls-placed}

@@ -1,4 +1,4 @@
-use Rattle.std.proofs.Common.{◌-◌, inl, inr, true, arith, rules}
+use Rattle.std.proofs.Common.{inl, inr, arith, rules}
 use Rattle.std.proofs.lemmas.Bool.{cases_lt}
 use Rattle.lr_product.proofs.FreeLetters.{skipped-letters, found-letter}
 use Rattle.lr_product.proofs.letters.next_letter.Goals as goal

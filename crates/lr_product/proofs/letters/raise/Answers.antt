@@ -1,4 +1,4 @@
-use Rattle.std.proofs.Common.{◌-◌, rules}
+use Rattle.std.proofs.Common.{rules}
 use Rattle.lr_product.proofs.Raising.{placed}
 use Rattle.lr_product.proofs.letters.raise.Goals as goal
 use Rattle.std.proofs.lemmas.List.{get_or_read}

@@ -6,7 +6,7 @@ use Rattle.sym_model.specs.PlaceOrders.{inversions}
 use Rattle.sym_model.specs.Polynomial.{pair, times}
 use Rattle.sym_model.specs.Schubert as polynomials
 use Rattle.sym_model.specs.Schubert.{schubert_in}
-use Rattle.linear_combinations.specs.Labels.{same_partition}
+use Rattle.linear_combinations.proofs.Labels.{same_partition}
 use Rattle.linear_combinations.proofs.Steps.{error_is}
 use Rattle.linear_combinations.proofs.Masses.{over_same, represents_sums}
 use Rattle.monk_product.proofs.product.act.Goals as goal

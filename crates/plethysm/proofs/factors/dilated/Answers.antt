@@ -6,7 +6,7 @@ use Rattle.sym_model.specs.Plethysm.{multiplied}
 use Rattle.sym_model.specs.Polynomial.{Same}
 use Rattle.sym_model.specs.Partition.{size}
 use Rattle.sym_model.specs.WholeTerms.{WholeTerms}
-use Rattle.coeff_rings.specs.Fractions.{whole}
+use Rattle.fraction_laws.specs.Fractions.{whole}
 use Rattle.sym_model.specs.LabelLimits.{is_label}
 use Rattle.partitions.specs.Limits.{IsWithinLimits}
 use Rattle.linear_combinations.specs.Entries.{coefficient as found}

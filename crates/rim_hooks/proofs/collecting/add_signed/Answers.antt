@@ -1,5 +1,5 @@
 use Rattle.std.proofs.Common.{◌≡◌, sym, subst, ◌*ℤ◌, None, rules}
-use Rattle.coeff_rings.specs.Checked.{checked_i128}
+use Rattle.fraction_laws.specs.Checked.{checked_i128}
 use Rattle.coeff_rings.proofs.Sizes.{refused_size}
 use Rattle.linear_combinations.proofs.Gains.{overflows_alone}
 use Rattle.rim_hooks.proofs.SignCasts.{kept_through}

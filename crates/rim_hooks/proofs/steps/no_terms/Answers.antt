@@ -1,5 +1,5 @@
 use Rattle.std.proofs.Common.{[], pos, subst, refl, sym, arith}
-use Rattle.coeff_rings.specs.Fractions.{whole}
+use Rattle.fraction_laws.specs.Fractions.{whole}
 use Rattle.linear_combinations.specs.Entries.{HasSameCoefficients}
 use Rattle.linear_combinations.proofs.Steps.{IsCombination-empty}
 use Rattle.linear_combinations.proofs.Totals.{length_same}

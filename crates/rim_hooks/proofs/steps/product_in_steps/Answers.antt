@@ -8,8 +8,8 @@ use Rattle.sym_model.specs.ReductionSteps.{LeadsTo, StepsLead, classical_weight,
 use Rattle.linear_combinations.specs.Gains.{Gains, scaled}
 use Rattle.linear_combinations.proofs.Masses.{over_same}
 use Rattle.linear_combinations.proofs.Steps.{error_is, IsCombination-empty}
-use Rattle.rim_hooks.specs.Reductions.{products, multiplied, HaveRoom, IsHeavyFrom}
-use Rattle.rim_hooks.specs.Reductions.{OverflowsWithin}
+use Rattle.reduction_laws.specs.Reductions.{products, multiplied, HaveRoom, IsHeavyFrom}
+use Rattle.reduction_laws.specs.Reductions.{OverflowsWithin}
 use Rattle.rim_hooks.proofs.FactorSteps.{factor_at, first_two, lead_on, heavy_here, heavy_later}
 use Rattle.rim_hooks.proofs.ReducedProducts.{few_at, room_next, gains_first, heavy_first}
 use Rattle.rim_hooks.proofs.ReducedProducts.{leads_sorted}

@@ -1,11 +1,11 @@
 use Rattle.std.proofs.Common.{drop}
-use Rattle.coeff_rings.specs.Fractions.{whole}
+use Rattle.fraction_laws.specs.Fractions.{whole}
 use Rattle.partitions.specs.FactorList.{cells_of}
 use Rattle.sym_model.specs.ReductionSteps.{LeadsTo, StepsLead}
 use Rattle.linear_combinations.specs.Entries.{IsCombination}
 use Rattle.linear_combinations.specs.Gains.{WholeTermsOf}
 use Rattle.rim_hooks.specs.HeavySteps.{HasHeavyStep}
-use Rattle.rim_hooks.specs.Reductions.{HaveRoom, IsHeavyFrom}
+use Rattle.reduction_laws.specs.Reductions.{HaveRoom, IsHeavyFrom}
 use Rattle.rim_hooks.proofs.steps.product_in_steps.Given as goal
 
 -- `terms` results from the steps through the factors before the index `at`; the number of cells of each of its labels, plus the number of cells of

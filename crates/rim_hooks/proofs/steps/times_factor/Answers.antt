@@ -7,7 +7,7 @@ use Rattle.linear_combinations.specs.Gains.{Gains, scaled}
 use Rattle.linear_combinations.proofs.Gains.{gains_none, pairs_gain, all_pairs, so_far_next}
 use Rattle.linear_combinations.proofs.Gains.{next_among, replaced_append}
 use Rattle.linear_combinations.proofs.Steps.{error_is, all_done, IsCombination-empty}
-use Rattle.rim_hooks.specs.Reductions.{products, multiplied}
+use Rattle.reduction_laws.specs.Reductions.{products, multiplied}
 use Rattle.rim_hooks.proofs.ReducedProducts.{counted, heavy_step}
 use Rattle.rim_hooks.proofs.steps.times_factor.Goals as goal
 

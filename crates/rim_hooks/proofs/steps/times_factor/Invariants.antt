@@ -1,9 +1,9 @@
 use Rattle.std.proofs.Common.{◌≡◌, [], ◌++◌, map}
 use Rattle.std.specs.Map.Iter.{deref_pair}
-use Rattle.coeff_rings.specs.Fractions.{whole}
+use Rattle.fraction_laws.specs.Fractions.{whole}
 use Rattle.linear_combinations.specs.Entries.{IsCombination}
 use Rattle.linear_combinations.specs.Gains.{Gains}
-use Rattle.rim_hooks.specs.Reductions.{multiplied}
+use Rattle.reduction_laws.specs.Reductions.{multiplied}
 use Rattle.rim_hooks.proofs.steps.times_factor.Given as goal
 
 -- `sums` is the sum of the reduced products of `factor` and the terms visited so far

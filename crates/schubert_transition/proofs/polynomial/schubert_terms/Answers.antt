@@ -1,5 +1,5 @@
 use Rattle.std.specs.Cmp.Lexicographic.{nat_list_eq_equiv}
-use Rattle.linear_combinations.specs.Labels.{same_partition}
+use Rattle.linear_combinations.proofs.Labels.{same_partition}
 use Rattle.sym_model.specs.DividedDifference.{x_to_in}
 use Rattle.sym_model.specs.Schubert.{schubert_in}
 use Rattle.transition_walk.proofs.Answering.{represents_same}

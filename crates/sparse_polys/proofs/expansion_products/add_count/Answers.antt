@@ -2,7 +2,7 @@ use Rattle.std.proofs.Common.{◌≡◌, ◌*◌, ◌∙◌, subst, arith, ◌*�
 use Rattle.std.specs.Prelude.{nat_eq}
 use Rattle.std.specs.Cmp.Lexicographic.{pointwise}
 use Rattle.std.proofs.lemmas.Result.{on_ok_weaker}
-use Rattle.coeff_rings.specs.Fractions.{scaled}
+use Rattle.fraction_laws.specs.Fractions.{scaled}
 use Rattle.linear_combinations.specs.Entries.{coefficient, HasMoreAt, IsRefused}
 use Rattle.sparse_polys.specs.Combination.{terms_of}
 use native.Mathlib.Nat.{mul-pos}

@@ -6,7 +6,7 @@ use Rattle.std.specs.Prelude.{nat_eq}
 use Rattle.std.specs.Cmp.Lexicographic.{pointwise}
 use Rattle.sym_model.specs.Canonical.{is_label}
 use Rattle.sym_model.proofs.SortedParts.{rows_within_size}
-use Rattle.coeff_rings.specs.Fractions.{scaled}
+use Rattle.fraction_laws.specs.Fractions.{scaled}
 use Rattle.linear_combinations.specs.Gains.{scaled as multiple}
 use Rattle.sparse_polys.proofs.Steps.{error_is}
 use Rattle.sparse_polys.specs.Combination.{terms_of}

@@ -2,7 +2,7 @@ use Rattle.std.proofs.Common.{ℕ, ◌*◌, take, ◌*ℤ◌}
 use Rattle.std.specs.Prelude.{nat_eq}
 use Rattle.std.specs.Cmp.Lexicographic.{pointwise}
 use Rattle.sym_model.specs.Canonical.{is_label}
-use Rattle.coeff_rings.specs.Fractions.{scaled}
+use Rattle.fraction_laws.specs.Fractions.{scaled}
 use Rattle.linear_combinations.specs.Gains.{scaled as multiple}
 use Rattle.linear_combinations.specs.Cleared.{IsDenominator, AreCleared, GainsCleared}
 use Rattle.sparse_polys.specs.Combination.{terms_of}

@@ -6,7 +6,7 @@ use Rattle.sym_model.specs.Canonical.{is_label}
 use Rattle.std.specs.Map.Iter.{deref_pair}
 use Rattle.std.proofs.lemmas.List.{map-append}
 use Rattle.sym_model.specs.Expansion.{Terms, Fraction}
-use Rattle.coeff_rings.specs.Fractions.{scaled}
+use Rattle.fraction_laws.specs.Fractions.{scaled}
 use Rattle.monomial_laws.specs.ExpressionTerms.{over}
 use Rattle.linear_combinations.specs.Gains.{replaced, scaled as multiple}
 use Rattle.sparse_polys.specs.Combination.{terms_of}

@@ -3,7 +3,7 @@ use Rattle.std.specs.Map.Iter.{deref_pair}
 use Rattle.std.specs.Prelude.{nat_eq}
 use Rattle.std.specs.Cmp.Lexicographic.{pointwise}
 use Rattle.sym_model.specs.Canonical.{is_label}
-use Rattle.coeff_rings.specs.Fractions.{scaled}
+use Rattle.fraction_laws.specs.Fractions.{scaled}
 use Rattle.monomial_laws.specs.ExpressionTerms.{over}
 use Rattle.linear_combinations.specs.Gains.{replaced, scaled as multiple}
 use Rattle.sparse_polys.specs.Combination.{terms_of}

@@ -2,8 +2,8 @@ use Rattle.std.proofs.Common.{◌≡◌, subst, ap, ◌∙◌, pos}
 use Rattle.std.specs.Prelude.{Option}
 use Rattle.std.specs.Int.{w128}
 use Rattle.std.proofs.lemmas.Int.{to_z_pos}
-use Rattle.coeff_rings.specs.Fractions.{whole, fraction_product}
-use Rattle.coeff_rings.specs.Answers.{AnswersProduct}
+use Rattle.fraction_laws.specs.Fractions.{whole, fraction_product}
+use Rattle.fraction_laws.specs.Answers.{AnswersProduct}
 use Rattle.sparse_polys.proofs.Accumulating.{product-value, refused-first, refused-second}
 use Rattle.sparse_polys.proofs.expansion_products.times_count.Goals as goal
 use Rattle.std.proofs.lemmas.Option.{IfSome_then}

@@ -2,7 +2,7 @@ use Rattle.std.proofs.Common.{ℕ, List, subst, arith, ◌^◌, pos}
 use Rattle.std.specs.Prelude.{nat_eq, ◌≤ℤ◌}
 use Rattle.std.specs.Cmp.Lexicographic.{pointwise}
 use Rattle.sym_model.specs.Canonical.{is_label}
-use Rattle.coeff_rings.specs.Fractions.{whole}
+use Rattle.fraction_laws.specs.Fractions.{whole}
 use Rattle.sym_model.specs.Partition.{IsPartition}
 use Rattle.sym_model.specs.WholeTerms.{WholeTerms}
 use Rattle.sparse_polys.proofs.Coefficients.{if_answered}

@@ -7,7 +7,7 @@ use Rattle.std.specs.Cmp.Lexicographic.{pointwise}
 use Rattle.sym_model.specs.LabelLimits.{is_monomial_label}
 use Rattle.sym_model.specs.Polynomial.{Term, times}
 use Rattle.monomial_laws.specs.ExpressionTerms.{over}
-use Rattle.coeff_rings.specs.Fractions.{scaled}
+use Rattle.fraction_laws.specs.Fractions.{scaled}
 use Rattle.sparse_polys.specs.Combination.{terms_of}
 use Rattle.sparse_polys.proofs.Steps.{all_done, error_is}
 use Rattle.linear_combinations.specs.Cleared.{GainsCleared, OverflowsCleared}

@@ -8,7 +8,7 @@ use Rattle.sym_model.specs.Expansion.{Terms, denominators}
 use Rattle.sym_model.specs.LabelLimits.{is_monomial_label}
 use Rattle.sym_model.specs.Polynomial.{pair, times}
 use Rattle.monomial_laws.specs.ExpressionTerms.{over}
-use Rattle.coeff_rings.specs.Fractions.{scaled}
+use Rattle.fraction_laws.specs.Fractions.{scaled}
 use Rattle.sparse_polys.specs.Combination.{terms_of, HasMoreAt}
 use Rattle.sparse_polys.proofs.Steps.{all_done}
 use Rattle.sparse_polys.proofs.Tables.{table_gained}

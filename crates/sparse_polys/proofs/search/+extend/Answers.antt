@@ -23,7 +23,7 @@ returns-then-left-eq0-clause-counted t c total sizes chosen counted =
     let prefix = c.args.chosen.now in
     let entry : Counted = record { parts = c.in_ok-parts.parts; count = c.ways_to_end-count.result }
     in
-    let copied : c.in_ok-parts.parts.items ≡ prefix = c.in_ok-parts.ensures in
+    let copied : c.in_ok-parts.parts.items ≡ prefix = c.in_ok-parts.ensures.items in
     subst (λ (l : List Counted). AreCounted total l) (sym c.in_ok-push.ensures.items)
     (counted-more total c.args.out.now.items entry
     (subst (λ l. IsPartition l) (sym copied) (IsPartition-chosen c.args.largest prefix chosen))
@@ -35,7 +35,7 @@ returns-then-left-eq0-clause-counts t c f counts have =
     let prefix = c.args.chosen.now in
     let entry : Counted = record { parts = c.in_ok-parts.parts; count = c.ways_to_end-count.result }
     in
-    let copied : c.in_ok-parts.parts.items ≡ prefix = c.in_ok-parts.ensures in
+    let copied : c.in_ok-parts.parts.items ≡ prefix = c.in_ok-parts.ensures.items in
     subst (λ (l : List Counted). HaveCounts f l) (sym c.in_ok-push.ensures.items)
     (counts-more f c.args.out.now.items entry
     (c.ways_to_end-count.ensures ∙ Counts-end f prefix c.args.largest c.args.states.now counts
@@ -68,7 +68,7 @@ loop-i-preserved t c =
     let part : i + 1 + (c.args.left - (i + 1)) ≡ c.args.left = omega arith in
     let more : c.as_slice-in-loop-i.result.now ≡ prefix ++ ((i + 1) ∷ []) =
     c.as_slice-in-loop-i.ensures.value ∙ c.in_ok-push-2.ensures.items
-    ∙ ap (λ l. l ++ ((i + 1) ∷ [])) c.in_ok-more.ensures in
+    ∙ ap (λ l. l ++ ((i + 1) ∷ [])) c.in_ok-more.ensures.items in
     record {
       found =
           λ ν.

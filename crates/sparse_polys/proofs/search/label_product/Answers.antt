@@ -11,8 +11,8 @@ use Rattle.sparse_polys.proofs.search.label_product.Goals as goal
 pub returns-clause-counts : goal.returns-clause-counts
 returns-clause-counts c ν p =
     let s : State = record {
-      left = c.in_ok-copy_of.field-0;
-      right = c.in_ok-copy_of-2.field-0;
+      left = c.in_ok-from_slice.field-0;
+      right = c.in_ok-from_slice-2.field-0;
       count = 1;
     } in
     let total : ℕ = c.size_of.result + c.size_of-2.result in
@@ -22,8 +22,8 @@ returns-clause-counts c ν p =
     let chosen : c.as_slice-2.result.now ≡ [] = c.as_slice-2.ensures.value
     ∙ c.new-chosen.ensures.items in
     let begin = ap (λ (l : List Counted). count_at l ν) c.new-out.ensures.items in
-    let all = found-all c.args.left.now c.args.right.now ν s total c.in_ok-copy_of.ensures
-    c.in_ok-copy_of-2.ensures refl p (ap₂ ◌+◌ (sym c.size_of.ensures) (sym c.size_of-2.ensures))
+    let all = found-all c.args.left.now c.args.right.now ν s total c.in_ok-from_slice.ensures.items
+    c.in_ok-from_slice-2.ensures.items refl p (ap₂ ◌+◌ (sym c.size_of.ensures) (sym c.size_of-2.ensures))
     in
     c.in_ok-extend.ensures.found ν
     ∙ ap (λ n. n + found c.as_slice-2.result.now total c.as_slice.result.now ν) begin
@@ -35,8 +35,8 @@ returns-clause-counts c ν p =
 pub returns-clause-each : goal.returns-clause-each
 returns-clause-each c =
     let s : State = record {
-      left = c.in_ok-copy_of.field-0;
-      right = c.in_ok-copy_of-2.field-0;
+      left = c.in_ok-from_slice.field-0;
+      right = c.in_ok-from_slice-2.field-0;
       count = 1;
     } in
     let total : ℕ = c.size_of.result + c.size_of-2.result in
@@ -49,7 +49,7 @@ returns-clause-each c =
     c.in_ok-extend.ensures.counts f
     (subst (λ l. Counts f l total c.as_slice.result.now) (sym chosen)
     (subst (λ (l : List State). Counts f [] total l) (sym states)
-    (Counts-begin c.args.left.now c.args.right.now s total c.in_ok-copy_of.ensures
-    c.in_ok-copy_of-2.ensures refl)))
+    (Counts-begin c.args.left.now c.args.right.now s total c.in_ok-from_slice.ensures.items
+    c.in_ok-from_slice-2.ensures.items refl)))
     (subst (λ (l : List Counted). HaveCounts f l) (sym c.new-out.ensures.items)
     (λ k d l. absurd (omega arith)))

@@ -5,7 +5,7 @@ use Rattle.std.specs.Cmp.Lexicographic.{pointwise, nat_list_eq_equiv}
 use Rattle.sym_model.proofs.Sums.{Among-get_or}
 use Rattle.strip_rules.specs.StripProduct.{placings}
 use Rattle.linear_combinations.specs.Gains.{Gains, Overflows, scaled}
-use Rattle.linear_combinations.specs.Labels.{same_partition}
+use Rattle.linear_combinations.proofs.Labels.{same_partition}
 use Rattle.linear_combinations.proofs.Counted.{scaled_each_by-append}
 use Rattle.linear_combinations.proofs.Gains.{gains_none, overflows_alone, places_gain}
 use Rattle.linear_combinations.proofs.Gains.{places_overflow}

@@ -3,7 +3,7 @@ use Rattle.std.specs.Cmp.Lexicographic.{nat_list_eq_equiv}
 use Rattle.std.proofs.lemmas.Bool.{both_ways}
 use Rattle.monomial_laws.specs.MonomialProduct.{arrangements}
 use Rattle.strip_rules.specs.StripProduct.{column}
-use Rattle.linear_combinations.specs.Labels.{same_partition}
+use Rattle.linear_combinations.proofs.Labels.{same_partition}
 use Rattle.linear_combinations.proofs.Gains.{overflows_alone}
 use Rattle.strip_rules.proofs.elementary.add_shape.Goals as goal
 

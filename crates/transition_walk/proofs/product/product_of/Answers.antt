@@ -2,7 +2,7 @@ use Rattle.std.proofs.Common.{◌-◌, ◌<◌, [], ◌∷◌, take, sym, ap, �
 use Rattle.std.proofs.lemmas.Int.{ints}
 use Rattle.std.specs.Prelude.{Err, FitsSigned}
 use Rattle.std.specs.Int.{w128}
-use Rattle.coeff_rings.specs.Fractions.{whole}
+use Rattle.fraction_laws.specs.Fractions.{whole}
 use Rattle.sym_model.specs.Polynomial.{pair}
 use Rattle.linear_combinations.specs.Entries.{IsTable}
 use Rattle.linear_combinations.specs.Gains.{WholeTermsOf}

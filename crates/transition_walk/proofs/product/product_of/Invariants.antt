@@ -1,6 +1,6 @@
 use Rattle.std.specs.Prelude.{pos, FitsSigned}
 use Rattle.std.specs.Int.{w128}
-use Rattle.coeff_rings.specs.Fractions.{whole}
+use Rattle.fraction_laws.specs.Fractions.{whole}
 use Rattle.linear_combinations.specs.Entries.{IsTable}
 use Rattle.transition_walk.specs.Todo.{load}
 use Rattle.transition_walk.proofs.UnderWay.{IsUnderWay}

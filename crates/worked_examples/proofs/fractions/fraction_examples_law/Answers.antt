@@ -1,5 +1,5 @@
 use Rattle.std.proofs.Common.{refl}
-use Rattle.coeff_rings.specs.Fractions.{lowest_terms, greatest_common_divisor}
+use Rattle.fraction_laws.specs.Fractions.{lowest_terms, greatest_common_divisor}
 use Rattle.worked_examples.proofs.fractions.fraction_examples_law.Goals as goal
 
 pub returns : goal.returns

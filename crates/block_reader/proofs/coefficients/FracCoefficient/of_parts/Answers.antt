@@ -3,7 +3,7 @@ use Rattle.std.proofs.Common.{FitsSigned, to_z, of_z, to_z-of_z}
 use Rattle.std.specs.Int.{w128}
 use Rattle.std.specs.Option.{unwrap_or}
 use Rattle.sym_model.specs.Expansion.{Fraction}
-use Rattle.coeff_rings.specs.Checked.{checked_fraction_of}
+use Rattle.fraction_laws.specs.Checked.{checked_fraction_of}
 use Rattle.block_reader.proofs.NewFractions.{not_new}
 use Rattle.block_reader.proofs.coefficients.FracCoefficient.of_parts.Goals as goal
 

@@ -1,6 +1,6 @@
 use Rattle.std.proofs.Common.{rules, ◌≡◌, ◌+◌, ◌<◌, ◌^◌}
-use Rattle.coeff_rings.specs.Checked.{checked_u128}
-use Rattle.coeff_rings.specs.Proved.Whole.{sum_answers_u128-from}
+use Rattle.fraction_laws.specs.Checked.{checked_u128}
+use Rattle.fraction_laws.proofs.Whole.{sum_answers_u128-from}
 use Rattle.coeff_rings.proofs.count.CountScalar.add.Goals as goal
 
 pub returns-clause-answer : goal.returns-clause-answer

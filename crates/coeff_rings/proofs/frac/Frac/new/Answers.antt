@@ -1,6 +1,6 @@
 use Rattle.std.proofs.Common.{sym, subst, to_z-of_z, Option, IfSome}
 use Rattle.sym_model.specs.Expansion.{Fraction}
-use Rattle.coeff_rings.specs.Checked.{IsFraction}
+use Rattle.fraction_laws.specs.Checked.{IsFraction}
 use Rattle.coeff_rings.proofs.Sizes.{new-steps, checked_fraction_of-held}
 use Rattle.coeff_rings.proofs.frac.Frac.new.Goals as goal
 

@@ -3,8 +3,8 @@ use Rattle.std.proofs.lemmas.Nat.Gcd.{IsGcd-swap}
 use Rattle.sym_model.specs.Expansion.{Fraction}
 use Rattle.coeff_rings.specs.Signs.{signs_differ}
 use Rattle.coeff_rings.specs.declared.frac.Sizes.{Sizes}
-use Rattle.coeff_rings.specs.Answers.{AnswersQuotient}
-use Rattle.coeff_rings.specs.Proved.FractionAnswers.{quotient_answers_fraction}
+use Rattle.fraction_laws.specs.Answers.{AnswersQuotient}
+use Rattle.fraction_laws.proofs.FractionAnswers.{quotient_answers_fraction}
 use Rattle.coeff_rings.proofs.Sizes.{size_positive, quotient-steps}
 use Rattle.coeff_rings.proofs.frac.FracField.div.Goals as goal
 

@@ -1,5 +1,5 @@
 use Rattle.std.proofs.Common.{to_z-of_z}
-use Rattle.coeff_rings.specs.Proved.FractionAnswers.{IsFraction-whole}
+use Rattle.fraction_laws.proofs.FractionAnswers.{IsFraction-whole}
 use Rattle.coeff_rings.proofs.frac.FracRing.from_whole.Goals as goal
 
 pub invariant_of-result : goal.invariant_of-result

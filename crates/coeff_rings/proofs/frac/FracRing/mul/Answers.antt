@@ -2,8 +2,8 @@ use Rattle.std.proofs.Common.{◌∙◌, ap, subst, sym, to_z-of_z}
 use Rattle.sym_model.specs.Expansion.{Fraction}
 use Rattle.coeff_rings.specs.Signs.{signs_differ}
 use Rattle.coeff_rings.specs.declared.frac.Sizes.{Sizes}
-use Rattle.coeff_rings.specs.Answers.{AnswersProduct}
-use Rattle.coeff_rings.specs.Proved.FractionAnswers.{product_answers_fraction}
+use Rattle.fraction_laws.specs.Answers.{AnswersProduct}
+use Rattle.fraction_laws.proofs.FractionAnswers.{product_answers_fraction}
 use Rattle.coeff_rings.proofs.Sizes.{product-steps}
 use Rattle.coeff_rings.proofs.frac.FracRing.mul.Goals as goal
 

@@ -1,6 +1,6 @@
 use Rattle.std.proofs.Common.{to_z-of_z}
-use Rattle.coeff_rings.specs.Checked.{IsFraction}
-use Rattle.coeff_rings.specs.Proved.FractionAnswers.{IsFraction-negation}
+use Rattle.fraction_laws.specs.Checked.{IsFraction}
+use Rattle.fraction_laws.proofs.FractionAnswers.{IsFraction-negation}
 use Rattle.coeff_rings.proofs.frac.FracRing.neg.Goals as goal
 
 held : (c : goal.In_ok-num) → IsFraction (c.in_ok-num.num, c.self.inside.den)

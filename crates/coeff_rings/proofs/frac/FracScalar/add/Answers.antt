@@ -1,7 +1,7 @@
 use Rattle.std.proofs.Common.{ℕ, ◌<◌, ◌^◌, to_z-of_z, ◌∙◌, ◌+ℤ◌, FitsSigned, ap, sym, subst}
 use Rattle.std.specs.Int.{w128, ◌∣◌}
 use Rattle.coeff_rings.specs.declared.frac.Common.{Common}
-use Rattle.coeff_rings.specs.Proved.FractionAnswers.{common_positive}
+use Rattle.fraction_laws.proofs.FractionAnswers.{common_positive}
 use Rattle.coeff_rings.proofs.CommonDivisors.{Balances-sum, common_divisors, divisor_divides}
 use Rattle.coeff_rings.proofs.FractionSteps.{sum_answers_fraction-from, sum-reached, sum-refused}
 use Rattle.coeff_rings.proofs.FractionSteps.{CommonFits-from}

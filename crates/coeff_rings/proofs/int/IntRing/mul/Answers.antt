@@ -1,7 +1,7 @@
 use Rattle.std.proofs.Common.{rules, ◌≡◌, ◌*ℤ◌, FitsSigned}
 use Rattle.std.specs.Int.{w128}
-use Rattle.coeff_rings.specs.Checked.{checked_i128}
-use Rattle.coeff_rings.specs.Proved.Whole.{product_answers_i128-from}
+use Rattle.fraction_laws.specs.Checked.{checked_i128}
+use Rattle.fraction_laws.proofs.Whole.{product_answers_i128-from}
 use Rattle.coeff_rings.proofs.int.IntRing.mul.Goals as goal
 
 pub returns-clause-answer : goal.returns-clause-answer

@@ -1,7 +1,7 @@
 use Rattle.std.proofs.Common.{rules, ◌≡◌, ◌+ℤ◌, FitsSigned}
 use Rattle.std.specs.Int.{w128}
-use Rattle.coeff_rings.specs.Checked.{checked_i128}
-use Rattle.coeff_rings.specs.Proved.Whole.{sum_answers_i128-from}
+use Rattle.fraction_laws.specs.Checked.{checked_i128}
+use Rattle.fraction_laws.proofs.Whole.{sum_answers_i128-from}
 use Rattle.coeff_rings.proofs.int.IntScalar.add.Goals as goal
 
 pub returns-clause-answer : goal.returns-clause-answer

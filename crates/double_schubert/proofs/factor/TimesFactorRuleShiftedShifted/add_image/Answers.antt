@@ -7,8 +7,8 @@ use Rattle.schubert_laws.proofs.Ranks.{letter_counts}
 use Rattle.double_schubert_laws.proofs.DoubleFromOne.{letter_small}
 use Rattle.linear_combinations.proofs.Steps.{error_is}
 use Rattle.linear_combinations.specs.Gains.{Gains, Overflows, scaled}
-use Rattle.coeff_rings.specs.Proved.Whole.{whole_fitted}
-use Rattle.double_schubert.specs.Shifts.{IsWithin, equal, factor_terms}
+use Rattle.fraction_laws.proofs.Whole.{whole_fitted}
+use Rattle.transition_laws.specs.Shifts.{IsWithin, equal, factor_terms}
 use Rattle.double_schubert.proofs.FactorGains.{added, factor_scaled, added_gains, overflow_first}
 use Rattle.double_schubert.proofs.FactorGains.{overflow_second, overflow_third, overflow_last}
 use Rattle.double_schubert.proofs.FactorGains.{overflow_negative}

@@ -4,8 +4,8 @@ use Rattle.std.specs.Prelude.{Some, IfSome, slice_get}
 use Rattle.std.specs.List.{IsDistinct}
 use Rattle.std.specs.Map.{keys_of}
 use Rattle.indexmap.specs.Layout.{set_value_at}
-use Rattle.coeff_rings.specs.Fractions.{whole, InLowestTerms, fraction_product}
-use Rattle.coeff_rings.specs.Proved.FractionLaws.{product_comm}
+use Rattle.fraction_laws.specs.Fractions.{whole, InLowestTerms, fraction_product}
+use Rattle.fraction_laws.proofs.FractionLaws.{product_comm}
 use Rattle.sym_model.specs.Sum.{Among}
 use Rattle.linear_combinations.specs.Entries.{coefficient, IsCombination, IsMultipleOf}
 use Rattle.linear_combinations.proofs.LowestTerms.{product-zero}

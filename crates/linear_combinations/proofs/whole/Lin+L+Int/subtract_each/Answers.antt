@@ -3,7 +3,7 @@ use Rattle.std.specs.Prelude.{Err, neg_ℤ}
 use Rattle.coeff_rings.proofs.Sizes.{refused_size}
 use Rattle.linear_combinations.proofs.Steps.{error_is}
 use Rattle.linear_combinations.specs.Gains.{Gains, Overflows}
-use Rattle.coeff_rings.specs.Proved.Whole.{whole_fitted}
+use Rattle.fraction_laws.proofs.Whole.{whole_fitted}
 use Rattle.linear_combinations.proofs.Gains.{gains_none, labels_gain, labels_overflow}
 use Rattle.linear_combinations.proofs.Gains.{overflows_alone, each_all}
 use Rattle.linear_combinations.proofs.whole.Lin+L+Int.subtract_each.Goals as goal

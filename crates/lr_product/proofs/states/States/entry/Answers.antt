@@ -1,4 +1,4 @@
-use Rattle.std.proofs.Common.{◌-◌, rules}
+use Rattle.std.proofs.Common.{rules}
 use Rattle.lr_product.proofs.CountedStates.{entries_length, within_numbers, state_there}
 use Rattle.lr_product.proofs.states.States.entry.Goals as goal
 

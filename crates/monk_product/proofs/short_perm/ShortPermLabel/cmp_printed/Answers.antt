@@ -7,7 +7,7 @@ use Rattle.sym_model.specs.PlaceOrders.{inversions}
 use Rattle.sym_model.specs.Permutation.{kept}
 use Rattle.sym_model.specs.PrintedOrder.{permutation_order}
 use Rattle.schubert_laws.proofs.FixedTails.{inversions_kept}
-use Rattle.linear_combinations.specs.Labels.{permutation_order_is_total}
+use Rattle.linear_combinations.proofs.Labels.{permutation_order_is_total}
 use Rattle.linear_combinations.proofs.LabelTests.{is_permutation_label-limits}
 use Rattle.perm_codes.specs.Limits.{IsWithinLimits}
 use Rattle.perm_codes.proofs.LetterOrder.{permutation_order-slice_cmp, permutation_order-equal}

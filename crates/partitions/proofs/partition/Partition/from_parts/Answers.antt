@@ -57,7 +57,7 @@ within given left sum is falls few sum_is small = record {
 pub with_cells-requires : goal.with_cells-requires
 with_cells-requires c =
     let is = c.numbers_before_zeros-parts.ensures in
-    let sum = c.sum_of-cells.ensures in
+    let sum = c.sum_of_numbers-cells.ensures in
     let limits = within c.args.parts.now _ _ is c.in_default.ensures c.if-parts-gt-MAX_ROWS.false
     sum c.if-cells-gt-MAX_CELLS.false in
     record { limits = subst IsWithinLimits (sym is) limits; cells_are = sum }
@@ -65,7 +65,7 @@ with_cells-requires c =
 pub returns-clause-limits : goal.returns-clause-limits
 returns-clause-limits c =
     within c.args.parts.now _ _ c.numbers_before_zeros-parts.ensures c.in_default.ensures
-    c.if-parts-gt-MAX_ROWS.false c.sum_of-cells.ensures c.if-cells-gt-MAX_CELLS.false
+    c.if-parts-gt-MAX_ROWS.false c.sum_of_numbers-cells.ensures c.if-cells-gt-MAX_CELLS.false
 
 pub returns-clause-rising : goal.returns-clause-rising
 returns-clause-rising c =

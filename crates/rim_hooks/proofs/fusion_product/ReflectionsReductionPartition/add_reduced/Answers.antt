@@ -5,14 +5,14 @@ use Rattle.coeff_rings.proofs.Sizes.{refused_size}
 use Rattle.sym_model.specs.WholeTerms.{WholeTerms}
 use Rattle.sparse_polys.proofs.Accumulating.{at_same}
 use Rattle.linear_combinations.specs.Gains.{Gains, Overflows, scaled}
-use Rattle.rim_hooks.specs.Collected.{IsSign}
+use Rattle.reduction_laws.specs.Collected.{IsSign}
 use Rattle.rim_hooks.specs.Reduced.{signed_partition}
-use Rattle.rim_hooks.specs.ReducedLists.{at_shape}
-use Rattle.rim_hooks.specs.SignLaws.{sign_told, signed_size}
+use Rattle.reduction_laws.specs.ReducedLists.{at_shape}
+use Rattle.reduction_laws.proofs.SignLaws.{sign_told, signed_size}
 use Rattle.rim_hooks.proofs.ReducedProducts.{overflow_one}
 use Rattle.rim_hooks.proofs.SignCasts.{kept_narrow}
 use Rattle.rim_hooks.proofs.fusion_product.ReflectionsReductionPartition.add_reduced.Goals as goal
-use Rattle.coeff_rings.specs.Proved.Whole.{whole_fitted}
+use Rattle.fraction_laws.proofs.Whole.{whole_fitted}
 
 pub add_signed-requires : goal.add_signed-requires
 add_signed-requires c =

@@ -5,11 +5,11 @@ use Rattle.std.proofs.Math.Nat.{mul-le-mul_left}
 use Rattle.coeff_rings.proofs.Sizes.{refused_size}
 use Rattle.beta_list_laws.proofs.Ends.{goes_cells}
 use Rattle.linear_combinations.specs.Gains.{Overflows, scaled}
-use Rattle.rim_hooks.specs.Collected.{IsSign}
+use Rattle.reduction_laws.specs.Collected.{IsSign}
 use Rattle.rim_hooks.specs.Reduced.{reduction}
-use Rattle.rim_hooks.specs.ReducedLists.{at_power}
-use Rattle.rim_hooks.specs.QuantumLaws.{power_equal_self}
-use Rattle.rim_hooks.specs.SignLaws.{core_sign, signed_size}
+use Rattle.reduction_laws.specs.ReducedLists.{at_power}
+use Rattle.reduction_laws.proofs.QuantumLaws.{power_equal_self}
+use Rattle.reduction_laws.proofs.SignLaws.{core_sign, signed_size}
 use Rattle.rim_hooks.proofs.ReducedProducts.{overflow_one}
 use Rattle.rim_hooks.proofs.SignCasts.{kept_narrow}
 use Rattle.product_laws.specs.FactorSteps.{PowerTerms}

@@ -5,9 +5,9 @@ use Rattle.sym_model.specs.DividedDifference.{raised}
 use Rattle.sym_model.specs.WholeTerms.{WholeTerms}
 use Rattle.sym_model.proofs.Ring.{product-one}
 use Rattle.linear_combinations.specs.Gains.{Gains, Overflows, scaled}
-use Rattle.linear_combinations.specs.Labels.{same_partition}
+use Rattle.linear_combinations.proofs.Labels.{same_partition}
 use Rattle.linear_combinations.proofs.Gains.{gains_term, overflows_term}
-use Rattle.schubert_transition.specs.Acted.{raised_terms}
+use Rattle.transition_laws.specs.Acted.{raised_terms}
 use Rattle.schubert_transition.proofs.polynomial.TimesVarRuleMonomialMonomial.add_image.Goals as goal
 use Rattle.std.proofs.lemmas.Result.{on_ok_weaker}
 

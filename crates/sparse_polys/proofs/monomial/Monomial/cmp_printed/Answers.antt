@@ -1,6 +1,6 @@
 use Rattle.std.proofs.Common.{◌≡◌, sym, ◌∙◌, rules}
 use Rattle.sym_model.specs.PrintedOrder.{printed_order}
-use Rattle.sparse_polys.specs.Ties.{monomial_order_equal}
+use Rattle.linear_combinations.proofs.Labels.{monomial_order_equal}
 use Rattle.sparse_polys.proofs.ExponentOrder.{printed_order-trimmed}
 use Rattle.sparse_polys.proofs.Labels.{is_monomial_label-from}
 use Rattle.sparse_polys.proofs.monomial.Monomial.cmp_printed.Goals as goal

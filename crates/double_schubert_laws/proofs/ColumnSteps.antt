@@ -1,0 +1,233 @@
+-- The product of a polynomial s with the values of Columns, in any number of variables y, step by step (`value_of`). For s = ±S_u, the last step is the
+-- product S_u·S_v.
+--     column_step     one more variable x_i: the values for i + 1 are sums of values for i times elementary polynomials
+--     column_start    no variable x: the value at n, .., 1 is s, every other one is 0
+--     column_end      all n variables x: the value at the inverse of v is s·S_v, up to the sign
+--     column_none     the value for i is 0 at q if the letters 1, .., n - i do not stand in decreasing order in q
+--     column_tame     this stays so under x_i
+use Rattle.std.proofs.Common.{◌≡◌, ℕ, zero, suc, ◌+◌, ◌-◌, ◌<◌, ◌≤◌, ◌==◌, ◌&&◌, List, [], ◌∷◌, ◌++◌, length, drop, take, replicate, refl, sym, ◌∙◌, ap, ap₂, arith, cond, None, ℤ, pos, ◌+ℤ◌, ◌-ℤ◌, length-drop}
+use Rattle.std.proofs.lemmas.Int.{ints}
+use Rattle.sym_model.specs.BetaList.{rising_pairs}
+use Rattle.sym_model.specs.PlaceOrders.{inversions}
+use Rattle.sym_model.specs.Polynomial.{Term, Poly, Same, In, nothing, one, plus, negate, times, restrict, pair, join, resize, all_zero, fits_in}
+use Rattle.sym_model.specs.Permutation.{first_ascent}
+use Rattle.sym_model.specs.DividedDifference.{variable, variable_in}
+use Rattle.sym_model.specs.DoubleSchubert.{difference_product}
+use Rattle.sym_model.specs.Schubert.{schubert, schubert_in, schubert_over}
+use Rattle.sym_model.proofs.Exponents.{resize-nil, resize_zeros, fits_in_zeros, all_zero_zeros, join_zeros, join_comm}
+use Rattle.sym_model.proofs.Polynomials.{pair_ext, pair_in, pair_plus, pair_negate, pair_times, pair_determined, pair_restrict, pair_one, same_from_pair, times_respects, plus_respects, Same_refl, Same_trans, In_one, In_plus, In_times, In_map, In_restrict}
+use Rattle.sym_model.proofs.PolynomialLaws.{times_comm, times_assoc, times-one, restrict-plus, restrict-times, restrict-one, restricted_test}
+use Rattle.sym_model.proofs.Sums.{Among_from_select}
+use Rattle.schubert_laws.specs.Chains.{elementary_in}
+use Rattle.schubert_laws.proofs.AtOrigin.{at_origin, origin_later, one_at_origin}
+use Rattle.schubert_laws.proofs.DifferenceLaws.{variable_after}
+use Rattle.schubert_laws.proofs.Dominant.{pair_x_to}
+use Rattle.schubert_laws.proofs.Exchanges.{raise, Rises}
+use Rattle.schubert_laws.proofs.FixedLetters.{In_descended}
+use Rattle.schubert_laws.proofs.Paths.{over_top}
+use Rattle.schubert_laws.proofs.Pieri.{after_factor, through_factor}
+use Rattle.double_schubert_laws.proofs.Columns.{row_times, below, In_row, In_below, below_all, over_combined, over_same, later_variable, IsState, moved_ext, value_at, x_acts, free_below, free_more, Rising, no_value, IsTame, tame_value, tame_expanded, expanded, expanded_ext, expanded_more, elementary_none, at_zero, with_elementary}
+use Rattle.double_schubert_laws.proofs.DoubleDominant.{unit, pair_variable_in}
+use Rattle.double_schubert_laws.proofs.InverseSteps.{turned, origin_zeros}
+use Rattle.double_schubert_laws.proofs.Inverses.{pair_x_zero, IsInverse, inverse_at_zero}
+
+-- ---- polynomials at x = 0
+
+In_over : (n : ℕ) (g : Poly) (q : List ℕ) → In (n + n) g → In (n + n) (schubert_over g q)
+In_over n g q i = In_descended g (n + n) (rising_pairs q) q i
+
+pair_at_zero : (n : ℕ) (g : Poly) (ψ : List ℕ → ℤ) (q : List ℕ) → In (n + n) g → pair (at_zero n g q) ψ ≡ value_at n g ψ q
+pair_at_zero n g ψ q i = pair_x_zero n (schubert_over g q) ψ (In_over n g q i)
+
+In_at_zero : (n : ℕ) (g : Poly) (q : List ℕ) → In (n + n) g → In n (at_zero n g q)
+In_at_zero n g q i =
+    In_map n (λ (t : Term). (drop n t.0, t.1)) _ (λ t m.
+    let l = In_over n g q i t (Among_from_select (λ (t : Term). all_zero (take n t.0)) t (schubert_over g q) m).0 in
+    omega (arith, length-drop n t.0))
+
+pub In_elementary : (d k n : ℕ) → In n (elementary_in d k n)
+In_elementary zero k n = In_one n
+In_elementary (suc d) zero n = λ t m. absurd m
+In_elementary (suc d) (suc k) n =
+    In_plus n (elementary_in (suc d) k n) (times (variable_in (suc k) n) (elementary_in d k n)) (In_elementary (suc d) k n)
+    (In_times n (variable_in (suc k) n) (elementary_in d k n) (In_restrict n (variable (suc k))) (In_elementary d k n))
+
+join_unit : (c n : ℕ) (β : List ℕ) → length β ≡ n → c < n → join (unit c n) β ≡ raise c β
+join_unit c zero β l h = absurd (omega arith)
+join_unit c (suc n) [] l h = absurd (omega arith)
+join_unit zero (suc n) (b ∷ β) l h =
+    let e : 1 + b ≡ suc b = omega arith in
+    ap₂ ◌∷◌ e (ap (λ α. join α β) (resize-nil n) ∙ join_zeros n β (omega arith))
+join_unit (suc c) (suc n) (b ∷ β) l h = let e : 0 + b ≡ b = omega arith in ap₂ ◌∷◌ e (join_unit c n β (omega arith) (omega arith))
+
+pair_y : (c n : ℕ) (P : Poly) (ψ : List ℕ → ℤ) → In n P → c < n → pair (times (variable_in (suc c) n) P) ψ ≡ pair P (λ β. ψ (raise c β))
+pair_y c n P ψ i h =
+    through_factor (variable_in (suc c) n) P ψ
+    ∙ pair_in n P (after_factor (variable_in (suc c) n) ψ) (λ β. ψ (raise c β)) i (λ β l. pair_variable_in c n (λ α. ψ (join α β)) h ∙ ap ψ (join_unit c n β l h))
+
+-- ---- the factors with one variable x
+
+y_acts : (n c : ℕ) (h : Poly) (ψ : List ℕ → ℤ) (q : List ℕ) → In (n + n) h → IsState n q → c < n → value_at n (times (variable_after (n + c)) h) ψ q ≡ value_at n h (λ β. ψ (raise c β)) q
+y_acts n c h ψ q i s l =
+    let size = s.size in
+    later_variable (n + n) (n + c) h q (at_origin n ψ) i (omega arith) (omega arith)
+    ∙ pair_ext (schubert_over h q) (λ α. at_origin n ψ (raise (n + c) α)) (at_origin n (λ β. ψ (raise c β))) (origin_later n c ψ)
+
+minus_acts : (n r c : ℕ) (h : Poly) (ψ : List ℕ → ℤ) (q : List ℕ)
+    → value_at n (times (plus (variable_after r) (negate (variable_after (n + c)))) h) ψ q ≡ value_at n (times (variable_after r) h) ψ q -ℤ value_at n (times (variable_after (n + c)) h) ψ q
+minus_acts n r c h ψ q =
+    over_combined (times (plus (variable_after r) (negate (variable_after (n + c)))) h) (times (variable_after r) h) (times (variable_after (n + c)) h) q (at_origin n ψ) (λ φ.
+    let a = pair_times (plus (variable_after r) (negate (variable_after (n + c)))) h φ in
+    let b = pair_plus (variable_after r) (negate (variable_after (n + c))) (λ α. pair h (λ β. φ (join α β))) in
+    let d = pair_negate (variable_after (n + c)) (λ α. pair h (λ β. φ (join α β))) in
+    let e = pair_times (variable_after r) h φ in
+    let f = pair_times (variable_after (n + c)) h φ in
+    omega (arith, ints))
+
+-- y_(c+1)·e_d(y_1, .., y_c) times U_q(g) at x = 0, paired with ψ
+abbrev with_more : ℕ → ℕ → Poly → (List ℕ → ℤ) → ℕ → List ℕ → ℤ
+with_more n c g ψ d q = pair (times (times (variable_in (suc c) n) (elementary_in d c n)) (at_zero n g q)) ψ
+
+more_is : (n c : ℕ) (g : Poly) (ψ : List ℕ → ℤ) (d : ℕ) (q : List ℕ) → In (n + n) g → c < n → with_elementary n c g (λ β. ψ (raise c β)) d q ≡ with_more n c g ψ d q
+more_is n c g ψ d q i h =
+    sym (pair_y c n (times (elementary_in d c n) (at_zero n g q)) ψ (In_times n (elementary_in d c n) (at_zero n g q) (In_elementary d c n) (In_at_zero n g q i)) h)
+    ∙ sym (pair_determined (times (times (variable_in (suc c) n) (elementary_in d c n)) (at_zero n g q)) (times (variable_in (suc c) n) (times (elementary_in d c n) (at_zero n g q))) ψ
+    (times_assoc (variable_in (suc c) n) (elementary_in d c n) (at_zero n g q)))
+
+one_more_variable : (n c : ℕ) (g : Poly) (ψ : List ℕ → ℤ) (d : ℕ) (q : List ℕ) → with_elementary n (suc c) g ψ (suc d) q ≡ with_elementary n c g ψ (suc d) q +ℤ with_more n c g ψ d q
+one_more_variable n c g ψ d q =
+    let a = pair_times (elementary_in (suc d) (suc c) n) (at_zero n g q) ψ in
+    let b = pair_plus (elementary_in (suc d) c n) (times (variable_in (suc c) n) (elementary_in d c n)) (λ α. pair (at_zero n g q) (λ β. ψ (join α β))) in
+    let e = pair_times (elementary_in (suc d) c n) (at_zero n g q) ψ in
+    let f = pair_times (times (variable_in (suc c) n) (elementary_in d c n)) (at_zero n g q) ψ in
+    omega (arith, ints)
+
+none_with : (n c : ℕ) (g : Poly) (ψ : List ℕ → ℤ) (q : List ℕ) → with_elementary n c g ψ (suc c) q ≡ pos 0
+none_with n c g ψ q = pair_times (elementary_in (suc c) c n) (at_zero n g q) ψ ∙ elementary_none (suc c) c n (λ α. pair (at_zero n g q) (λ β. ψ (join α β))) (omega arith)
+
+turned_none : (k : ℕ) → turned k (pos 0) ≡ pos 0
+turned_none zero = refl
+turned_none (suc k) = turned_none k
+
+column : (n i c : ℕ) (g : Poly) (ψ : List ℕ → ℤ) (q : List ℕ) → In (n + n) g → IsState n q → i < n → c ≤ n
+    → value_at n (row_times n i c g) ψ q ≡ expanded c n i (with_elementary n c g ψ) q
+column n i zero g ψ q j s h l =
+    sym (pair_at_zero n g ψ q j)
+    ∙ sym (pair_determined (times (one n) (at_zero n g q)) (at_zero n g q) ψ
+    (Same_trans (times (one n) (at_zero n g q)) (times (at_zero n g q) (one n)) (at_zero n g q) (times_comm (one n) (at_zero n g q)) (times-one n (at_zero n g q) (In_at_zero n g q j))))
+column n i (suc c) g ψ q j s h l =
+    let k = In_row n i c g j h (omega arith) in
+    let a = minus_acts n i c (row_times n i c g) ψ q in
+    let b = x_acts n i (row_times n i c g) ψ q k s h in
+    let d = moved_ext n i (value_at n (row_times n i c g) ψ) (λ v. expanded c n i (with_elementary n c g ψ) v) q s h (λ v t. column n i c g ψ v j t h (omega arith)) in
+    let e = y_acts n c (row_times n i c g) ψ q k s (omega arith) in
+    let f = column n i c g (λ β. ψ (raise c β)) q j s h (omega arith) in
+    let m = expanded_ext c n i (with_elementary n c g (λ β. ψ (raise c β))) (with_more n c g ψ) q s h (λ x v t. more_is n c g ψ x v j (omega arith)) in
+    let p = expanded_more c n i (with_elementary n c g ψ) (with_elementary n (suc c) g ψ) (with_more n c g ψ) q s h (λ v t. refl) (λ x v t. one_more_variable n c g ψ x v) in
+    let z = ap (turned (suc c)) (none_with n c g ψ q) ∙ turned_none (suc c) in
+    omega (arith, ints)
+
+-- ---- in any number of variables y, times a polynomial s
+
+abbrev pub value_of : ℕ → ℕ → Poly → ℕ → (List ℕ → ℤ) → List ℕ → ℤ
+value_of n k s i f q = value_at n (below n i) (restricted_test k (after_factor s f)) q
+
+fits_longer : (m n : ℕ) (α : List ℕ) → length α ≤ n → fits_in m (resize n α) ≡ fits_in m α
+fits_longer m zero [] h = refl
+fits_longer m zero (a ∷ α) h = absurd (omega arith)
+fits_longer zero (suc n) [] h = ap all_zero (resize-nil (suc n)) ∙ all_zero_zeros (suc n)
+fits_longer zero (suc n) (a ∷ α) h = ap (λ t. (a == 0) && t) (fits_longer zero n α (omega arith))
+fits_longer (suc m) (suc n) [] h = ap (fits_in (suc m)) (resize-nil (suc n)) ∙ fits_in_zeros (suc m) (suc n)
+fits_longer (suc m) (suc n) (a ∷ α) h = fits_longer m n α (omega arith)
+
+resize_longer : (m n : ℕ) (α : List ℕ) → length α ≤ n → resize m (resize n α) ≡ resize m α
+resize_longer zero n α h = refl
+resize_longer (suc m) zero [] h = refl
+resize_longer (suc m) zero (a ∷ α) h = absurd (omega arith)
+resize_longer (suc m) (suc n) [] h = ap (resize (suc m)) (resize-nil (suc n)) ∙ resize_zeros (suc m) (suc n) ∙ sym (resize-nil (suc m))
+resize_longer (suc m) (suc n) (a ∷ α) h = ap (λ β. a ∷ β) (resize_longer m n α (omega arith))
+
+length-variable : (c : ℕ) → length {A = ℕ} (replicate c 0 ++ (1 ∷ [])) ≡ suc c
+length-variable zero = refl
+length-variable (suc c) = ap suc (length-variable c)
+
+restrict_variable : (k c n : ℕ) → c < n → Same (restrict k (variable_in (suc c) n)) (variable_in (suc c) k)
+restrict_variable k c n h =
+    let z : suc c - 1 ≡ c = omega arith in
+    same_from_pair (restrict k (variable_in (suc c) n)) (variable_in (suc c) k) (λ φ.
+    pair_restrict k (variable_in (suc c) n) φ
+    ∙ pair_variable_in c n (restricted_test k φ) h
+    ∙ ap₂ (λ t β. cond t (φ β) (pos 0))
+    (fits_longer k n (replicate c 0 ++ (1 ∷ [])) (let e = length-variable c in omega arith))
+    (resize_longer k n (replicate c 0 ++ (1 ∷ [])) (let e = length-variable c in omega arith))
+    ∙ sym (pair_restrict k (variable (suc c)) φ ∙ pair_x_to (replicate (suc c - 1) 0 ++ (1 ∷ [])) (restricted_test k φ) ∙ ap (λ i. restricted_test k φ (replicate i 0 ++ (1 ∷ []))) z))
+
+restrict_elementary : (k d c n : ℕ) → c ≤ n → Same (restrict k (elementary_in d c n)) (elementary_in d c k)
+restrict_elementary k zero c n h = restrict-one k n
+restrict_elementary k (suc d) zero n h = Same_refl nothing
+restrict_elementary k (suc d) (suc c) n h =
+    Same_trans (restrict k (plus (elementary_in (suc d) c n) (times (variable_in (suc c) n) (elementary_in d c n)))) (plus (restrict k (elementary_in (suc d) c n)) (restrict k (times (variable_in (suc c) n) (elementary_in d c n)))) (elementary_in (suc d) (suc c) k)
+    (restrict-plus k (elementary_in (suc d) c n) (times (variable_in (suc c) n) (elementary_in d c n)))
+    (plus_respects (restrict k (elementary_in (suc d) c n)) (elementary_in (suc d) c k) (restrict k (times (variable_in (suc c) n) (elementary_in d c n))) (times (variable_in (suc c) k) (elementary_in d c k))
+    (restrict_elementary k (suc d) c n (omega arith))
+    (Same_trans (restrict k (times (variable_in (suc c) n) (elementary_in d c n))) (times (restrict k (variable_in (suc c) n)) (restrict k (elementary_in d c n))) (times (variable_in (suc c) k) (elementary_in d c k))
+    (restrict-times k (variable_in (suc c) n) (elementary_in d c n))
+    (times_respects (restrict k (variable_in (suc c) n)) (variable_in (suc c) k) (restrict k (elementary_in d c n)) (elementary_in d c k) (restrict_variable k c n (omega arith)) (restrict_elementary k d c n (omega arith)))))
+
+-- an elementary polynomial times a polynomial P in n variables, restricted and multiplied by s
+elementary_moves : (n k c d : ℕ) (s P : Poly) (f : List ℕ → ℤ) → c ≤ n
+    → pair (times (elementary_in d c n) P) (restricted_test k (after_factor s f)) ≡ pair P (restricted_test k (after_factor s (after_factor (elementary_in d c k) f)))
+elementary_moves n k c d s P f h =
+    sym (pair_restrict k (times (elementary_in d c n) P) (after_factor s f))
+    ∙ pair_determined (restrict k (times (elementary_in d c n) P)) (times (elementary_in d c k) (restrict k P)) (after_factor s f)
+    (Same_trans (restrict k (times (elementary_in d c n) P)) (times (restrict k (elementary_in d c n)) (restrict k P)) (times (elementary_in d c k) (restrict k P))
+    (restrict-times k (elementary_in d c n) P)
+    (times_respects (restrict k (elementary_in d c n)) (elementary_in d c k) (restrict k P) (restrict k P) (restrict_elementary k d c n h) (Same_refl (restrict k P))))
+    ∙ sym (through_factor s (times (elementary_in d c k) (restrict k P)) f)
+    ∙ sym (pair_determined (times (times s (elementary_in d c k)) (restrict k P)) (times s (times (elementary_in d c k) (restrict k P))) f (times_assoc s (elementary_in d c k) (restrict k P)))
+    ∙ pair_determined (times (times s (elementary_in d c k)) (restrict k P)) (times (times (elementary_in d c k) s) (restrict k P)) f
+    (times_respects (times s (elementary_in d c k)) (times (elementary_in d c k) s) (restrict k P) (restrict k P) (times_comm s (elementary_in d c k)) (Same_refl (restrict k P)))
+    ∙ pair_determined (times (times (elementary_in d c k) s) (restrict k P)) (times (elementary_in d c k) (times s (restrict k P))) f (times_assoc (elementary_in d c k) s (restrict k P))
+    ∙ through_factor (elementary_in d c k) (times s (restrict k P)) f
+    ∙ through_factor s (restrict k P) (after_factor (elementary_in d c k) f)
+    ∙ pair_restrict k P (after_factor s (after_factor (elementary_in d c k) f))
+
+-- the value with an elementary polynomial of d factors among y_1, .., y_c
+abbrev pub column_term : ℕ → ℕ → Poly → ℕ → ℕ → (List ℕ → ℤ) → ℕ → List ℕ → ℤ
+column_term n k s i c f d q = value_of n k s i (after_factor (elementary_in d c k) f) q
+
+pub column_step : (n k i : ℕ) (s : Poly) (f : List ℕ → ℤ) (q : List ℕ) → IsState n q → i < n
+    → value_of n k s (suc i) f q ≡ expanded (n - suc i) n i (column_term n k s i (n - suc i) f) q
+column_step n k i s f q t h =
+    let b = In_below n i (omega arith) in
+    column n i (n - suc i) (below n i) (restricted_test k (after_factor s f)) q b t h (omega arith)
+    ∙ expanded_ext (n - suc i) n i (with_elementary n (n - suc i) (below n i) (restricted_test k (after_factor s f))) (column_term n k s i (n - suc i) f) q t h (λ d v u.
+    elementary_moves n k (n - suc i) d s (at_zero n (below n i) v) f (omega arith)
+    ∙ pair_at_zero n (below n i) (restricted_test k (after_factor s (after_factor (elementary_in d (n - suc i) k) f))) v b)
+
+pub column_none : (n k i : ℕ) (s : Poly) (f : List ℕ → ℤ) (q : List ℕ) → i ≤ n → IsState n q → Rising (n - i) q → value_of n k s i f q ≡ pos 0
+column_none n k i s f q h t r = no_value n i (below n i) (restricted_test k (after_factor s f)) q h (free_below n i h) t r
+
+pub column_tame : (n k i c e : ℕ) (s : Poly) (f : List ℕ → ℤ) → i < n → IsTame n i (expanded e n i (column_term n k s i c f))
+column_tame n k i c e s f h =
+    tame_expanded e n i (column_term n k s i c f) h (λ d.
+    tame_value n i (below n i) (restricted_test k (after_factor s (after_factor (elementary_in d c k) f))) (In_below n i (omega arith)) h
+    (free_more n i (below n i) (free_below n i (omega arith))))
+
+pub column_start_none : (n k j : ℕ) (s : Poly) (f : List ℕ → ℤ) (q : List ℕ) → Rises j q → value_of n k s 0 f q ≡ pos 0
+column_start_none n k j s f q r = one_at_origin (n + n) j q (at_origin n (restricted_test k (after_factor s f))) r
+
+pub column_start : (n k : ℕ) (s : Poly) (f : List ℕ → ℤ) (q : List ℕ) → In k s → first_ascent q ≡ None → value_of n k s 0 f q ≡ pair s f
+column_start n k s f q i e =
+    ap (λ u. pair u (at_origin n (restricted_test k (after_factor s f)))) (over_top (one (n + n)) (rising_pairs q) q e)
+    ∙ pair_one (n + n) (at_origin n (restricted_test k (after_factor s f)))
+    ∙ origin_zeros n n (restricted_test k (after_factor s f))
+    ∙ ap₂ (λ t β. cond t (after_factor s f β) (pos 0)) (fits_in_zeros k n) (resize_zeros k n)
+    ∙ pair_in k s (λ α. f (join α (replicate k 0))) f i (λ α l. ap f (join_comm α (replicate k 0) ∙ join_zeros k α (omega arith)))
+
+pub column_end : (k : ℕ) (s : Poly) (f : List ℕ → ℤ) (p v : List ℕ) → IsInverse p v
+    → value_of (length v) k s (length v) f p ≡ turned (inversions v) (pair (times s (schubert_in v k)) f)
+column_end k s f p v t =
+    over_same (below (length v) (length v)) (difference_product (length v) (length v)) p (at_origin (length v) (restricted_test k (after_factor s f))) (below_all (length v))
+    ∙ inverse_at_zero p v (restricted_test k (after_factor s f)) t
+    ∙ ap (turned (inversions v)) (sym (pair_restrict k (schubert v) (after_factor s f)) ∙ sym (through_factor s (schubert_in v k) f))

@@ -1,0 +1,5 @@
+pub mod Fractions
+pub mod Room
+pub mod Laws
+pub mod Answers
+pub mod Checked

@@ -1,0 +1,9 @@
+pub mod Entries
+pub mod GoodLists
+pub mod WholeLists
+pub mod DualFunctions
+pub mod LeastLabels
+pub mod ScaledLists
+pub mod OneList
+pub mod IndependentPowers
+pub mod Degrees

@@ -1,0 +1,3 @@
+pub mod TermLists
+mod Stacks
+mod Moves
