@@ -1,0 +1,161 @@
+"""The commands of calc, as check/table reads them: their words, partitions, permutations, tableaux and expressions."""
+import re
+from fractions import Fraction
+
+from expressions import BASES, Reader
+
+
+class Unreadable(Exception):
+    """A text that is no table, or words that are no command."""
+
+
+class Undecided(Exception):
+    """The check would take too long here."""
+
+
+class Wrong(Exception):
+    """The table is not that of the command; the text gives the reason."""
+
+
+def shown(label):
+    """A label as calc prints it."""
+    if label and isinstance(label[-1], tuple):
+        return f"q^{label[0]}  {shown(label[1])}" if isinstance(label[0], int) else " ".join(map(shown, label))
+    return "(" + ",".join(map(str, label)) + ")"
+
+
+def numbers(words):
+    for it in words:
+        if not re.fullmatch("[0-9]{1,4000}", it):
+            raise Unreadable(f"`{it[:20]}` is no number")
+    return tuple(map(int, words))
+
+
+def partition(items):
+    items = without_last(0, items)
+    if any(a < b for a, b in zip(items, items[1:])):
+        raise Unreadable(f"{shown(items)} is no partition")
+    return items
+
+
+def without_last(number, items):
+    """The list without this number at its end."""
+    items = list(items)
+    while items and items[-1] == number:
+        items.pop()
+    return tuple(items)
+
+
+def permutation(items):
+    """A permutation without fixed letters at its end, but with the letter 1."""
+    items = tuple(items)
+    if sorted(items) != list(range(1, len(items) + 1)) or not items:
+        raise Unreadable(f"{shown(items)} is no permutation")
+    while len(items) > 1 and items[-1] == len(items):
+        items = items[:-1]
+    return items
+
+
+def split(words, mark):
+    """The lists of words between the marks."""
+    parts = [[]]
+    for it in words:
+        if it == mark:
+            parts.append([])
+        else:
+            parts[-1].append(it)
+    return parts
+
+
+def rows_of(words):
+    """The rows of a tableau."""
+    rows = split(words, "/")
+    if not all(rows):
+        raise Unreadable("a row of a tableau is missing")
+    return () if rows == [["."]] else tuple(() if it == ["."] else numbers(it) for it in rows)
+
+
+def tableau(words):
+    """The rows of a tableau that is not skew."""
+    rows = rows_of(words)
+    if () in rows:
+        raise Unreadable("a row of a tableau is empty")
+    return rows
+
+
+def fold(tree, of_number, of_label, signs):
+    """The value of an expression, from those of its numbers and labels; `signs` has the functions of +, - and *."""
+    kind, *parts = tree
+    if kind in ("numeral", "ratio"):
+        return of_number(Fraction(*numbers(parts)))
+    if kind == "label":
+        return of_label(next(letter for letter, name in BASES.items() if name == parts[0][0]), partition(numbers(parts[1])))
+    values = [fold(it, of_number, of_label, signs) for it in parts if len(it) > 1]
+    if kind == "brackets":
+        return values[0]
+    return signs["minus"](of_number(Fraction(0)), values[0]) if kind == "minus_first" else signs[parts[0][0]](*values)
+
+
+def degree(tree):
+    return fold(tree, lambda it: 0, lambda basis, parts: sum(parts), {"plus": max, "minus": max, "times": lambda a, b: a + b})
+
+
+def expression(words):
+    try:
+        tree = Reader(words[0]).whole()
+        degree(tree)
+        return tree
+    except (ValueError, ZeroDivisionError) as why:
+        raise Unreadable(f"{why}") from why
+
+
+def read_by(read):
+    return lambda words: read(numbers(words))
+
+
+# the name of a command: the kind of its labels, the sign between its parts, the least and the greatest number of these, and what reads a part
+COMMANDS = {
+    "mult": ("partition", "-", 2, 8, read_by(partition)), "skew": ("partition", "/", 2, 2, read_by(partition)),
+    "coef": ("number", "-", 3, 3, read_by(partition)), "coprod": ("pair", "-", 1, 1, read_by(partition)),
+    "quantum": ("power", "-", 2, 8, read_by(partition)), "fusion": ("partition", "-", 2, 8, read_by(partition)),
+    "schubert": ("monomial", "-", 1, 1, read_by(permutation)), "schubmult": ("permutation", "-", 2, 2, read_by(permutation)),
+    "dschubmult": ("shift", "-", 2, 2, read_by(permutation)), "stanley": ("partition", "-", 1, 1, read_by(permutation)),
+    "expand": ("partition", None, 1, 1, expression), "plethysm": ("partition", None, 2, 2, expression),
+    "tab": ("text", "-from", 2, 3, rows_of), "rect": ("text", "-", 3, 3, rows_of), "unrsk": ("text", "-", 2, 2, tableau),
+    "rsk": ("text", "-", 1, 1, numbers), "growth": ("text", "-", 1, 1, read_by(permutation)),
+}
+
+
+class Claim:
+    """A command: what a table is said to be. `data` are its partitions, permutations, expressions or tableaux, `kind` that of the labels."""
+
+    def __init__(self, words):
+        if not words or words[0] not in COMMANDS:
+            raise Unreadable("which command is this the answer to? For example: check/table 'mult 2 1 - 2 1' FILE")
+        self.words, self.name, rest = words, words[0], words[1:]
+        self.kind, sign, least, most, read = COMMANDS[self.name]
+        self.basis, self.sizes, self.variables, self.is_line = "s", (), None, False
+        if self.name in ("mult", "skew", "stanley") and rest[:1] == ["-r"]:
+            self.variables, rest = numbers(rest[1:2])[0] if rest[1:] else 0, rest[2:]
+        if self.name in ("mult", "skew", "expand") and rest[:1] == ["-m"]:
+            self.is_line, rest = True, rest[1:]
+        if self.name in ("quantum", "fusion"):
+            self.sizes, rest = numbers(rest[:2]), rest[2:]
+        if self.name in ("expand", "plethysm"):
+            self.basis, rest = (rest or [""])[0], rest[1:]
+        parts = split(rest, sign) if sign else [[it] for it in rest]
+        shape = [partition(numbers(it)) for it in split(parts.pop(0), "/")] if self.name in ("tab", "rect") else []
+        self.data = shape + [read(it) for it in parts]
+        if not least <= len(self.data) <= most or self.basis not in BASES or 0 in self.sizes or self.variables == 0 or len(shape) not in (0, 2) \
+                or len(self.sizes) != 2 * (self.name in ("quantum", "fusion")) or self.name == "stanley" and not self.variables:
+            raise Unreadable(f"`{' '.join(words)}` is no command")
+
+    def degree(self):
+        """The degree of both sides, or a bound for it."""
+        if self.name in ("expand", "plethysm"):
+            return degree(self.data[0]) * (degree(self.data[1]) if self.name == "plethysm" else 1)
+        if self.name in ("schubert", "schubmult", "dschubmult"):
+            return sum(len(it) ** 2 for it in self.data)
+        if self.name == "stanley":
+            return sum(a > b for i, a in enumerate(self.data[0]) for b in self.data[0][i + 1:])
+        return sum(self.data[0]) - sum(self.data[1]) if self.name == "skew" else sum(map(sum, self.data))

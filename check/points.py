@@ -1,0 +1,272 @@
+"""Both sides of a claim at a random point, or at each tuple of roots of unity, modulo primes: the values of symmetric functions by their power
+sums, Newton's identities and Jacobi–Trudi determinants, and those of Schubert polynomials by products of nilCoxeter elements."""
+import functools
+import itertools
+import math
+import operator
+import random
+from collections import Counter, defaultdict
+
+from claims import Undecided, Wrong, fold, shown
+
+RANDOM = random.SystemRandom()
+MOST_TUPLES, MOST_STATES = 20000, 500000
+# Power sums, Newton's identities and the powers of roots are found up to the degree; a label of a Schubert polynomial has at most this size.
+MOST_DEGREE, MOST_SIZE = 4000, 2 * 256 ** 2
+WITNESSES = (2, 3, 5, 7, 11, 13, 17, 19, 23, 29, 31, 37)
+
+
+def is_prime(n):
+    """Whether a number of 61 bits is a prime, by the test of Miller and Rabin."""
+    odd = (n - 1) // ((n - 1) & (1 - n))
+    powers = [[pow(base, odd << i, n) for i in range(((n - 1) // odd).bit_length() - 1)] for base in WITNESSES]
+    return n % 2 == 1 and all(it[0] == 1 or n - 1 in it for it in powers)
+
+
+def two_primes(step):
+    """Two random primes of 61 bits that are 1 modulo `step`."""
+    found = set()
+    while len(found) < 2:
+        n = RANDOM.randrange(2 ** 60 // step + 1, 2 ** 61 // step) * step + 1
+        found.update([n] if is_prime(n) else [])
+    return sorted(found)
+
+
+def modulo(value, modulus):
+    return value.numerator % modulus if value.denominator == 1 else value.numerator * pow(value.denominator, -1, modulus) % modulus
+
+
+def numbers(modulus):
+    """Random numbers by their indices."""
+    return defaultdict(lambda: RANDOM.randrange(modulus))
+
+
+class Point:
+    """A point at which symmetric functions are evaluated: the values of its power sums p_1, p_2, .. . If these are random, what holds there holds
+    in every number of variables."""
+
+    def __init__(self, modulus, power):
+        self.modulus, self.power, self.width = modulus, power, 0
+        self.ps, self.hs, self.es, self.monomials = [None], [1], [1], {(): 1}
+        self.eliminated = functools.lru_cache(2000)(self.eliminate)
+
+    def p(self, k):
+        while len(self.ps) <= k:
+            self.ps.append(self.power(len(self.ps)) % self.modulus)
+        return self.ps[k]
+
+    def newton(self, found, k, sign):
+        """The value of h_k or e_k by Newton's identities."""
+        self.p(max(k, 1))
+        while len(found) <= k:
+            n = len(found)
+            found.append(sum(sign ** (i + 1) * self.ps[i] * found[n - i] for i in range(1, n + 1)) * pow(n, -1, self.modulus) % self.modulus)
+        return found[k] if k >= 0 else 0
+
+    def h(self, k):
+        return self.newton(self.hs, k, 1)
+
+    def e(self, k):
+        return self.newton(self.es, k, -1)
+
+    def eliminate(self, outer, inner):
+        """The last row of the Jacobi–Trudi matrix after elimination by the rows before it, divided by its pivot; and the determinant. The leading
+        minors are skew Schur functions too, and if one is 0, so is the next: no exchange of rows is needed."""
+        i, value = len(outer) - 1, 1
+        row = [self.hs[k] if k >= 0 else 0 for k in range(outer[-1] - i, outer[-1] - i + len(inner))] if not any(inner) else [
+            self.h(outer[-1] - i - b + j) for j, b in enumerate(inner)]
+        for k in range(i):
+            upper, value = self.eliminated(outer[:k + 1], inner)
+            if not value:
+                return [], 0
+            first, *row = row
+            row = [(a - first * b) % self.modulus for a, b in zip(row, upper)]
+        inverse = pow(row[0], -1, self.modulus) if row[0] else 0
+        return [it * inverse % self.modulus for it in row[1:]], value * row[0] % self.modulus
+
+    def s(self, outer, inner=()):
+        """The Schur function or skew Schur function."""
+        if len(inner) > len(outer) or any(a < b for a, b in zip(outer, inner)):
+            return 0
+        self.h(sum(outer[:1]) + max(self.width, len(outer)))
+        return self.eliminated(outer, inner + (0,) * (max(self.width, len(outer)) - len(inner)))[1] if outer else 1
+
+    def augmented(self, parts):
+        """The sum over different variables of x_1^a·x_2^b·.. for the parts a, b, .. ."""
+        if parts not in self.monomials:
+            *front, last = parts
+            value = self.p(last) * self.augmented(tuple(front))
+            for i, a in enumerate(front):
+                value -= self.augmented(tuple(sorted([*front[:i], *front[i + 1:], a + last], reverse=True)))
+            self.monomials[parts] = value % self.modulus
+        return self.monomials[parts]
+
+    def m(self, parts):
+        repeated = math.prod(map(math.factorial, Counter(parts).values()))
+        return self.augmented(parts) * pow(repeated, -1, self.modulus)
+
+    def of(self, basis, parts):
+        return getattr(self, basis)(parts) if basis in "sm" else functools.reduce(lambda a, k: a * getattr(self, basis)(k) % self.modulus, parts, 1)
+
+    def sum(self, basis, terms):
+        """The sum of the terms. In this order the determinants have most rows in common."""
+        self.width = max([self.width] + [len(label) for _, label in terms])
+        return sum(modulo(c, self.modulus) * self.of(basis, label) for c, label in sorted(terms, key=operator.itemgetter(1))) % self.modulus
+
+    def value(self, tree):
+        """The value of an expression."""
+        signs = {"plus": operator.add, "minus": operator.sub, "times": lambda a, b: a * b % self.modulus}
+        return fold(tree, lambda it: modulo(it, self.modulus), self.of, signs)
+
+    def inside(self, tree):
+        """The point at which a function f has the value of f[g] here, for an expression g."""
+        return Point(self.modulus, lambda k: Point(self.modulus, lambda j: self.p(j * k)).value(tree))
+
+
+def point_at(modulus, xs):
+    """The point of these variables."""
+    return Point(modulus, lambda k: sum(pow(x, k, modulus) for x in xs))
+
+
+def schuberts(terms, weight, modulus, rows=None):
+    """The sum of c·S_w over the terms (w, c): the coefficient of w in the product of the 1 + weight·u_g of nilCoxeter elements. Row i has the
+    factors for g from n - 1 down to i, or to 1 for Stanley functions of this number of rows; a factor takes the letters g + 1, g of a
+    permutation to g, g + 1 if they stand in this order."""
+    n, states = max([len(it) for it in terms] + [1]), Counter()
+    if n > 255:
+        raise Undecided("a permutation has more than 255 letters")
+    for w, c in terms.items():
+        states[bytes([*w, *range(len(w) + 1, n + 1)])] += c
+    for i in range(1, rows + 1 if rows else n):
+        for g in range(n - 1, 0 if rows else i - 1, -1):
+            value, exchange, found = weight(i, g), bytes.maketrans(bytes((g, g + 1)), bytes((g + 1, g))), defaultdict(int)
+            for w, c in states.items():
+                falls = w.index(g + 1) < w.index(g)
+                if rows or not (falls and w[i - 1] == g + 1):  # (otherwise letter i cannot come to its place)
+                    found[w] = (found[w] + c) % modulus
+                if falls:
+                    other = w.translate(exchange)
+                    found[other] = (found[other] + c * value) % modulus
+            states = found
+            if len(states) > MOST_STATES:
+                raise Undecided("a Schubert polynomial has too many partial products")
+    return states[bytes(range(1, n + 1))]
+
+
+def sides(claim, terms, modulus):
+    """Both sides of a claim at a random point."""
+    k, data, basis = claim.variables, claim.data, claim.basis
+    x, y = numbers(modulus), numbers(modulus)
+    at = point_at(modulus, [x[i] for i in range(1, k + 1)]) if k else Point(modulus, x.__getitem__)
+    other, single, double = Point(modulus, y.__getitem__), lambda i, g: x[i], lambda i, g: x[i] - y[g - i + 1]
+    power = lambda numbers, exponents: math.prod(pow(numbers[i], a, modulus) for i, a in enumerate(exponents, 1))
+    schubert = lambda terms, weight=single, rows=None: schuberts(terms, weight, modulus, rows)
+
+    def shifted():
+        """The permutations of labels (w, β), each with the sum of its c·y^β."""
+        found = Counter()
+        for c, (w, exponents) in terms:
+            found[w] += modulo(c, modulus) * power(y, exponents)
+        return found
+
+    def pairs():
+        first, second = ({it: point.s(it) for it in sorted({label[i] for _, label in terms})} for i, point in enumerate((at, other)))
+        return sum(modulo(c, modulus) * first[mu] * second[nu] for c, (mu, nu) in terms)
+    return {
+        "mult": lambda: (math.prod(map(at.s, data)), at.sum("s", terms)),
+        "skew": lambda: (at.s(*data), at.sum("s", terms)),
+        "coprod": lambda: (Point(modulus, lambda k: at.p(k) + other.p(k)).s(data[0]), pairs()),
+        "expand": lambda: (at.value(data[0]), at.sum(basis, terms)),
+        "plethysm": lambda: (at.inside(data[1]).value(data[0]), at.sum(basis, terms)),
+        "schubert": lambda: (schubert({data[0]: 1}), sum(modulo(c, modulus) * power(x, it) for c, it in terms)),
+        "schubmult": lambda: (schubert({data[0]: 1}) * schubert({data[1]: 1}), schubert({w: modulo(c, modulus) for c, w in terms})),
+        "dschubmult": lambda: (schubert({data[0]: 1}, double) * schubert({data[1]: 1}, double), schubert(shifted(), double)),
+        "stanley": lambda: (schubert({data[0]: 1}, single, k), at.sum("s", terms)),
+    }[claim.name]()
+
+
+# ---- quantum and fusion products: at each set of K different n-th roots, one of each orbit of rotations
+
+def at_each(powers, k, forms, modulus):
+    """The values of alternating forms at each choice of k of the numbers, the first of them among these; `powers` has the powers of each. A form has
+    the coefficients of determinants det(x_i^(l_j)); it is contracted by one number after another."""
+    def walk(start, left, forms):
+        if not left:
+            yield [form.get((), 0) for form in forms]
+            return
+        for at in range(start, len(powers)) if left < k else (0,):
+            yield from walk(at + 1, left - 1, [contracted(form, powers[at]) for form in forms])
+
+    def contracted(form, power):
+        found = defaultdict(int)
+        for exponents, c in form.items():
+            for j, a in enumerate(exponents):
+                rest = exponents[:j] + exponents[j + 1:]
+                found[rest] = (found[rest] + (-c if j % 2 else c) * power[a]) % modulus
+        return found
+    return walk(0, k, forms)
+
+
+def check_roots(claim, terms, modulus):
+    """Compares both sides at each tuple of roots, and says how many there were."""
+    k, n, factors = claim.sizes[0], sum(claim.sizes), [it for it in claim.data if len(it) <= claim.sizes[0]]
+    if math.comb(n, k) > MOST_TUPLES:
+        raise Undecided(f"there are {math.comb(n, k)} tuples of roots of unity, and at most {MOST_TUPLES} are tried")
+    exponents = lambda shape: tuple(a + k - 1 - i for i, a in enumerate(shape + (0,) * (k - len(shape))))
+    table, shapes = Counter(), [label[1] if claim.kind == "power" else label for _, label in terms]
+    for (c, _), shape in zip(terms, shapes):
+        table[exponents(shape)] += modulo(c, modulus)
+    roots = (pow(RANDOM.randrange(2, modulus), (modulus - 1) // (2 * n), modulus) for _ in itertools.count())
+    root = next(it for it in roots if all(pow(it, 2 * n // q, modulus) != 1 for q in range(2, 2 * n + 1) if 2 * n % q == 0))
+    powers = [[pow(root, 2 * i + (claim.kind == "power" and k % 2 == 0), modulus)] for i in range(n)]
+    most = max([0] + [it[0] for it in shapes + factors if it]) + k
+    powers = [[pow(x, a, modulus) for a in range(most)] for x, in powers]
+    forms = [table, {exponents(()): 1}, *({exponents(it): 1} for it in factors)]
+    count = 0
+    for right, vandermonde, *left in at_each(powers, k, forms, modulus):
+        count += 1
+        value = math.prod(left) if len(factors) == len(claim.data) else 0
+        if (value - right * vandermonde ** (len(claim.data) - 1)) % modulus:
+            raise Wrong(f"the two sides differ at the tuple of roots of unity number {count}")
+    return f"each of {count} tuples of roots of unity"
+
+
+# ---- any claim
+
+def size_of(label):
+    """The sum of all numbers in a label; for a permutation it bounds the degree."""
+    return sum(size_of(it) if isinstance(it, tuple) else it for it in label)
+
+
+def must_occur(claim, label, degree):
+    """The label has the size, and fits the rows, the rectangle or the alcove, that all labels of the command have."""
+    shape, rows = label[1] if claim.kind == "power" else label, claim.variables or sum(claim.sizes[:1])
+    size = label[0] * sum(claim.sizes) + sum(shape) if claim.kind == "power" else size_of(label)
+    if rows and len(shape) > rows:
+        raise Wrong(f"the label {shown(label)} has more than {rows} rows")
+    if claim.kind in ("partition", "pair", "power") and (size > degree or size < degree and claim.name not in ("expand", "plethysm")):
+        raise Wrong(f"the label {shown(label)} has the size {size}, not {degree}")
+    if claim.sizes and shape and shape[0] - (shape + (0,) * rows)[rows - 1] * (claim.name == "fusion") > claim.sizes[1]:
+        raise Wrong(f"the label {shown(label)} cannot occur in this product")
+
+
+def compare(claim, terms):
+    """Ends if both sides are equal: what was tried, and the logarithm, base 2, of a bound for the probability that a wrong table passes."""
+    degree, step = claim.degree(), 2 * sum(claim.sizes) or 1
+    for _, label in terms:
+        must_occur(claim, label, degree)
+    size = max([degree, claim.variables or 0] + [size_of(label) for _, label in terms])
+    if size > (MOST_DEGREE if claim.kind in ("partition", "pair", "power") else MOST_SIZE):
+        raise Undecided(f"a degree or a number of variables of {size} is too large")
+    primes = two_primes(step)
+    if claim.sizes:
+        tried = [check_roots(claim, terms, it) for it in primes][0]
+    else:
+        tried, modulus = "a random point", math.prod(primes)
+        left, right = sides(claim, terms, modulus)
+        if (left - right) % modulus:
+            raise Wrong("the two sides differ at " + tried)
+    bits = max([0] + [c.numerator.bit_length() + c.denominator.bit_length() for c, _ in terms])
+    bits += 20 * (size + 8) * (size + 8).bit_length() + 8 * len(" ".join(claim.words))
+    # (more than 2^54/step primes of 61 bits are 1 modulo `step`)
+    return tried, 2 * math.log2(bits / 60 * step / 2.0 ** 54 + (0 if claim.sizes else size / 2.0 ** 60))

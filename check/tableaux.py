@@ -1,0 +1,181 @@
+"""The counts of check/table: Littlewood–Richardson coefficients, lattice tableaux, and the shapes of words by Greene's theorem."""
+import functools
+import itertools
+import re
+from collections import Counter
+
+from claims import Undecided, Unreadable, Wrong, numbers, partition, rows_of, shown, tableau, without_last
+
+MOST_STEPS, MOST_LETTERS = 500000, 40
+
+
+# ---- numbers
+
+def signed_contents(outer, inner):
+    """The contents in the Jacobi–Trudi determinant of outer/inner, each with its sign: s is the sum of the signed h of them."""
+    n, found, steps = len(outer), Counter(), itertools.count()
+    inner += (0,) * (n - len(inner))
+
+    def place(i, free, sign, content):
+        if next(steps) > MOST_STEPS:
+            raise Undecided("the count has too many steps")
+        if i == n:
+            found[tuple(sorted((it for it in content if it), reverse=True))] += sign
+        for at, j in enumerate(free):
+            part = outer[j] - j - inner[i] + i
+            if part >= 0:
+                place(i + 1, free[:at] + free[at + 1:], -sign if at % 2 else sign, [*content, part])
+    place(0, list(range(n)), 1, [])
+    return found
+
+
+@functools.lru_cache(None)
+def tableaux(content, most):
+    """The numbers of semistandard tableaux with a content, by their shapes, as far as these lie inside the shape `most`, if it is given."""
+    found = Counter({(): 1} if not content else {})
+    for shape, count in tableaux(content[:-1], most).items() if content else ():
+        for lower in itertools.product(*(range(b, a + 1) for a, b in zip(shape, (*shape[1:], 0)))):
+            first = sum(shape) + content[-1] - sum(lower)
+            larger = without_last(0, (first, *lower))
+            if first >= sum(shape[:1]) and (most is None or len(larger) <= len(most) and all(a <= b for a, b in zip(larger, most))):
+                found[larger] += count
+        if len(found) > MOST_STEPS // 20:
+            raise Undecided("the count has too many steps")
+    return found
+
+
+def coefficient(outer, left, right):
+    """The coefficient of s_outer in the product of two Schur functions: a signed sum of Kostka numbers."""
+    if sum(outer) != sum(left) + sum(right) or max(len(left), len(right)) > len(outer):
+        return 0
+    left, right = sorted((left, right), key=sum)
+    return sum(c * tableaux(content, left)[left] for content, c in signed_contents(outer, right).items())
+
+
+def count_lattice_tableaux(outer, inner):
+    """The number of lattice tableaux of a skew shape: a signed sum of the numbers of tableaux of any shape with a content."""
+    if len(inner) > len(outer) or any(a < b for a, b in zip(outer, inner)):
+        return 0
+    return sum(c * sum(tableaux(content, None).values()) for content, c in signed_contents(outer, inner).items())
+
+
+# ---- texts of tableaux and words
+
+def greene(word):
+    """The shape of a word: the first k rows have as many cells as k weakly increasing subsequences without a common place can have places
+    (Greene). They are found as flows of greatest gain in the graph of the places."""
+    n = len(word)
+    if n > MOST_LETTERS:
+        raise Undecided(f"words of more than {MOST_LETTERS} letters are not checked")
+    source, sink, edges, shape = 2 * n, 2 * n + 1, [], []
+    for i in range(n):
+        edges += [[source, 2 * i, 1, 0], [2 * i, 2 * i + 1, 1, 1], [2 * i + 1, sink, 1, 0]]
+        edges += [[2 * i + 1, 2 * j, 1, 0] for j in range(i + 1, n) if word[i] <= word[j]]
+    while sum(shape) < n:
+        gains, came, changed = {source: 0}, {}, True
+        while changed:
+            changed = False
+            for edge in edges:
+                start, end, room, gain = edge
+                for one, other, room, gain in ((start, end, room, gain), (end, start, 1 - room, -gain)):
+                    if room and one in gains and gains[one] + gain > gains.get(other, -1 - n):
+                        gains[other], came[other], changed = gains[one] + gain, (one, edge), True
+        at = sink
+        while at != source:
+            at, edge = came[at]
+            edge[2] = 1 - edge[2]
+        shape.append(gains[sink])
+    return tuple(shape)
+
+
+def is_semistandard(rows, inner=()):
+    inner = tuple(inner) + (0,) * (len(rows) - len(inner))
+    cells = {(i, inner[i] + j): a for i, row in enumerate(rows) for j, a in enumerate(row)}
+    return all(cells.get((i, j - 1), 0) <= a and cells.get((i - 1, j), 0) < a for (i, j), a in cells.items())
+
+
+def must_match(rows, what, entries, word_up_to):
+    """The rows are a semistandard tableau with these entries, and those up to each of them have the shape of a word."""
+    if not is_semistandard(rows) or sorted(entries) != sorted(a for row in rows for a in row):
+        raise Wrong(f"{what} is no tableau with the right entries")
+    for most in sorted(set(entries)):
+        if greene(word_up_to(most)) != tuple(it for it in (sum(a <= most for a in row) for row in rows) if it):
+            raise Wrong(f"the entries up to {most} have another shape in {what}")
+
+
+def must_be_pair(word, p, q):
+    """p is the insertion tableau and q, if there is one, the recording tableau of the word."""
+    must_match(p, "P", word, lambda letter: [a for a in word if a <= letter])
+    if q is not None:
+        must_match(q, "Q", range(1, len(word) + 1), lambda k: word[:k])
+
+
+def lines_in(text, count):
+    lines = text.rstrip("\n").split("\n") if text else []
+    if len(lines) != count:
+        raise Unreadable(f"{count} line{'s' * (count > 1)} must be here, and there are {len(lines)}")
+    return lines
+
+
+def check_text(claim, text):
+    """Checks the text of tableaux or of a word; the result says how."""
+    data = claim.data
+    if claim.name == "tab":
+        return check_tableaux(*data[:2], text, data[2:])
+    if claim.name == "rsk":
+        lines = lines_in(text, 2)
+        if [it[:2] for it in lines] != ["P ", "Q "]:
+            raise Unreadable("a line `P ..` and a line `Q ..` are wanted")
+        must_be_pair(data[0], *(tableau(it[2:].split()) for it in lines))
+    elif claim.name == "unrsk":
+        must_be_pair(numbers(lines_in(text, 1)[0].split()), *data)
+    elif claim.name == "rect":
+        outer, inner, rows = data
+        if len(inner) > len(outer) or min(lengths(outer, inner), default=0) < 0 or not is_of_shape(rows, outer, inner) or not is_semistandard(rows, inner):
+            raise Unreadable("the tableau of the command is not semistandard, or not of the shape")
+        must_be_pair([a for row in reversed(rows) for a in row], tableau(lines_in(text, 1)[0].split()), None)
+    else:
+        for i, line in enumerate(lines_in(text, len(data[0]) + 1)):
+            shapes = [partition(numbers(re.findall("[0-9]+", it))) for it in line.split(" ")]
+            if len(shapes) != len(data[0]) + 1 or " ".join(map(shown, shapes)) != line:
+                raise Unreadable(f"line {i + 1} has no {len(data[0]) + 1} shapes")
+            for j, shape in enumerate(shapes):
+                if greene([a for a in data[0][:i] if a <= j]) != shape:
+                    raise Wrong(f"the shape at ({i}, {j}) is another one")
+    return "each shape is that of Greene's theorem"
+
+
+def lengths(outer, inner):
+    """The numbers of cells of the rows of outer/inner."""
+    return [a - b for a, b in zip(outer, inner + (0,) * len(outer))]
+
+
+def is_of_shape(rows, outer, inner):
+    """Whether the rows have these numbers of cells; a tableau without a cell has no rows."""
+    return [len(it) for it in rows] == lengths(outer, inner) or not rows and all(it <= 0 for it in lengths(outer, inner))
+
+
+def check_tableaux(outer, inner, text, last):
+    """Checks the lines of `tab`: lattice tableaux, in their order, and their number."""
+    readings = []
+    for at, line in enumerate([] if text == "0\n" else text.rstrip("\n").split("\n"), 1):
+        rows = rows_of(line.split())
+        if not is_of_shape(rows, outer, inner):
+            raise Wrong(f"line {at} is no tableau of the shape")
+        starts = inner + (0,) * len(rows)
+        cells = sorted((-starts[i] - j, i, a) for i, row in enumerate(rows) for j, a in enumerate(row))
+        reading, counts, is_good = [a for _, _, a in cells], Counter({0: len(cells)}), is_semistandard(rows, inner)
+        for a in reading:
+            counts[a] += 1
+            is_good = is_good and counts[a] <= counts[a - 1]
+        if not is_good:
+            raise Wrong(f"line {at} is no lattice tableau")
+        readings.append(reading)
+    if any(a >= b for a, b in zip(readings, readings[1:])):
+        raise Wrong("the tableaux are not in the order of their column readings, or one stands twice")
+    if last:
+        raise Undecided("each line is a lattice tableau, but how many come after a given one is not counted")
+    count = count_lattice_tableaux(outer, inner)
+    if len(readings) != count:
+        raise Wrong(f"there are {count} lattice tableaux")
+    return "each line is a lattice tableau, and so many there are"
