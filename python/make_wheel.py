@@ -19,8 +19,14 @@ HERE = os.path.dirname(os.path.abspath(__file__))
 TOP = os.path.dirname(HERE)
 BUILD = os.path.join(TOP, "build")
 LICENCES = ("LICENSE", "NOTICE", "LGPL-2.1")
+# The names of the program and the library in the package, on macOS, on Windows, and elsewhere.
+PROGRAMS = {"win": "calc.exe", "": "calc"}
+LIBRARIES = {"mac": "libyorqanish.dylib", "win": "yorqanish.dll", "": "libyorqanish.so"}
 # The oldest glibc that a tag of pip names, and the tag's older name.
-OLDEST, OLDEST_TAG = 17, "manylinux_2_17_x86_64.manylinux2014_x86_64"
+OLDEST, OLDEST_TAG = 17, "manylinux_2_17_{0}.manylinux2014_{0}"
+# The first bytes of programs and libraries, with the processor where it is among them, and the tags of their machines: of Linux the processor alone.
+ELF, PE, MACH_O = b"\x7fELF", b"MZ", b"\xcf\xfa\xed\xfe"
+MACHINES = {(ELF, 18, 0x3E): "x86_64", (ELF, 18, 0xB7): "aarch64", (MACH_O, 4, 7): "macosx_11_0_x86_64", (MACH_O, 4, 12): "macosx_11_0_arm64", (PE, 0, 77): "win_amd64"}
 
 
 def text_of(path):
@@ -38,9 +44,10 @@ def version():
     return text_of(next(it for it in (f"{TOP}/VERSION", f"{HERE}/yorqanish/VERSION") if os.path.exists(it))).strip()
 
 
-def is_binary(path):
-    """Whether the file is there and no script."""
-    return os.path.isfile(path) and content_of(path)[:4] == b"\x7fELF"
+def machine_of(path):
+    """The tag of the machine of a program or a library, by its first bytes; None of another file, as a script."""
+    begin = content_of(path)[:20] if os.path.isfile(path) else b""
+    return next((tag for (sign, at, kind), tag in MACHINES.items() if begin.startswith(sign) and begin[at : at + 1] == bytes([kind])), None)
 
 
 def genuine(name):
@@ -49,18 +56,23 @@ def genuine(name):
         return None
     done = subprocess.run(["sh", f"{TOP}/release/genuine", "--prebuilt", name], stdout=subprocess.PIPE, universal_newlines=True, check=False)
     said = done.stdout.strip()
-    if done.returncode not in (0, 4):
+    if done.returncode not in (0, 4, 5):
         raise SystemExit(f"make_wheel: {said}")
     return said if done.returncode == 0 else None
 
 
 def tag_of(binaries):
-    """Where the wheel runs: by the newest glibc that its binaries ask for."""
+    """Where the wheel runs: on the machine of its binaries, on Linux by the newest glibc that they ask for."""
     if not binaries:
         return "py3-none-any"
+    machine, *others = sorted({machine_of(it) for it in binaries})
+    if others:
+        raise SystemExit(f"make_wheel: {' and '.join(binaries)} are of different machines")
+    if machine.startswith(("macosx", "win")):
+        return f"py3-none-{machine}"
     minors = [int(it) for path in binaries for it in re.findall(rb"GLIBC_2\.(\d+)", content_of(path))]
     newest = max([OLDEST, *minors])
-    return f"py3-none-{OLDEST_TAG if newest == OLDEST else f'manylinux_2_{newest}_x86_64'}"
+    return f"py3-none-{OLDEST_TAG.format(machine) if newest == OLDEST else f'manylinux_2_{newest}_{machine}'}"
 
 
 def fields(licences):
@@ -68,13 +80,14 @@ def fields(licences):
     project = text_of(f"{HERE}/pyproject.toml")
     said = dict(re.findall(r'^([a-z-]+) = "(.*)"$', project, re.MULTILINE))
     lists = {name: re.findall(r'"(.*?)"', it) for name, it in re.findall(r"^([a-z]+) = \[(.*?)\]$", project, re.MULTILINE | re.DOTALL)}
+    others = {"LGPL-2.1": " AND LGPL-2.1-or-later", "ZPL-2.1": " AND ZPL-2.1"}
     return [
         "Metadata-Version: 2.4",
         f"Name: {said['name']}",
         f"Version: {version()}",
         f"Summary: {said['description']}",
         f"Author: {lists['authors'][0]}",
-        f"License-Expression: {'MIT AND LGPL-2.1-or-later' if LICENCES[-1] in licences else 'MIT'}",
+        "License-Expression: MIT" + "".join(said for name, said in others.items() if name in licences),
         *(f"License-File: {it}" for it in licences),
         f"Keywords: {','.join(lists['keywords'])}",
         *(f"Classifier: {it}" for it in lists["classifiers"]),
@@ -92,13 +105,16 @@ def contents(program, library, tag):
     folder = f"{HERE}/yorqanish"
     files = {f"yorqanish/{name}": content_of(f"{folder}/{name}") for name in sorted(os.listdir(folder)) if name.endswith((".py", ".typed"))}
     files["yorqanish/VERSION"] = f"{version()}\n".encode()
-    if program:
-        files["yorqanish/calc"] = content_of(program)
-    if library:
-        files["yorqanish/libyorqanish.so"] = content_of(library)
+    if os.path.exists(f"{TOP}/check/table"):
+        names = ("table", "claims.py", "expressions.py", "points.py", "tableaux.py")
+        files.update({f"yorqanish/checks/{it}": content_of(f"{TOP}/check/{it}") for it in names})
+    for path, names in ((program, PROGRAMS), (library, LIBRARIES)):
+        if path:
+            files[f"yorqanish/{names.get((machine_of(path) or '')[:3], names[''])}"] = content_of(path)
     about = f"yorqanish-{version()}.dist-info"
-    # (a program with its C library in it comes with that library's licence, too)
-    licences = LICENCES if program else LICENCES[:1]
+    # (the program and the library come with the notices of the kit's ports, and that of Linux with the licence of the C library in it, too)
+    licences = LICENCES if program and "linux" in tag else LICENCES[:2] if program or library else LICENCES[:1]
+    licences += ("ZPL-2.1",) if "win_" in tag else ()
     files[f"{about}/METADATA"] = metadata(licences).encode()
     pure = "true" if tag.endswith("any") else "false"
     tags = [f"py3-none-{it}" for it in tag[len("py3-none-") :].split(".")]
@@ -120,10 +136,10 @@ def digest(content):
 
 def make(out, program=None, library=None):
     """Makes the wheel in a folder; its name. A file that is named has to be there."""
-    for path in (program, library):
-        if path and not is_binary(path):
-            raise SystemExit(f"make_wheel: {path} is no program and no library")
     program, library = program or genuine("calc"), library or genuine("libyorqanish.so")
+    for path in (program, library):
+        if path and not machine_of(path):
+            raise SystemExit(f"make_wheel: {path} is no program and no library")
     for path, what in ((program, "the program calc"), (library, "libyorqanish.so")):
         if not path:
             print(f"make_wheel: {what} is not here, and is left out", file=sys.stderr)
@@ -133,7 +149,7 @@ def make(out, program=None, library=None):
         for file, content in contents(program, library, tag).items():
             # (a fixed date, so that the same sources make the same wheel)
             entry = zipfile.ZipInfo(file, (2020, 1, 1, 0, 0, 0))
-            entry.external_attr = (0o100755 if file == "yorqanish/calc" else 0o100644) << 16
+            entry.external_attr = (0o100755 if file in ("yorqanish/calc", "yorqanish/calc.exe") else 0o100644) << 16
             wheel.writestr(entry, content, zipfile.ZIP_DEFLATED)
     return name
 

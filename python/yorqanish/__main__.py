@@ -1,11 +1,14 @@
 """`python -m yorqanish WORDS` runs the program that a Calculator would take, with these words."""
+import subprocess
 import sys
 
-from ._search import program
+from ._search import IS_WINDOWS, PROGRAM, near, program
 from ._ways import NoCalculator
 
 if __name__ == "__main__":
     try:
+        if IS_WINDOWS:
+            sys.exit(subprocess.run([near(PROGRAM) or PROGRAM, *sys.argv[1:]]).returncode)
         found = program(None)
     except NoCalculator as error:
         sys.exit(f"yorqanish: {error}")

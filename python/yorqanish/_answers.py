@@ -6,6 +6,7 @@ from typing import Any, Callable, Dict, List, Tuple
 from ._arguments import Numbers, without_zeros
 from ._expansion import Expansion
 from ._kinds import listed
+from ._parents import Home, parent_of
 from ._pictures import grid
 from ._reasons import words_of
 from ._tableaux import pair_of, tableau_of
@@ -31,9 +32,7 @@ def tableaux_of(text: str, words: List[str]) -> Any:
     return [] if text == "0\n" else [tableau_of(line, shape) for line in text.splitlines()]
 
 
-# The kinds of the lists of terms; the other answers.
-LISTS = {"coprod": "pairs", "quantum": "powers", "schubert": "monomials", "schubmult": "permutations", "dschubmult": "shifts"}
-LISTS.update(dict.fromkeys(("mult", "skew", "fusion", "stanley", "expand", "plethysm"), "symmetric"))
+# The answers that are no lists of terms.
 OTHERS: Dict[str, Callable[[str, List[str]], Any]] = {
     "coef": lambda text, words: int(text),
     "tab": tableaux_of,
@@ -44,11 +43,9 @@ OTHERS: Dict[str, Callable[[str, List[str]], Any]] = {
 }
 
 
-def answer_of(line: str, text: str) -> Any:
+def answer_of(line: str, text: str, home: Home) -> Any:
     """The answer to a line: what the command's method answers, a list for `tab`, and the printed text for `-m`."""
     words = words_of(line)
     if "-m" in words[1:4]:
         return text.rstrip("\n")
-    if words[0] in LISTS:
-        return Expansion.of(text, LISTS[words[0]], words[1] if words[0] in ("expand", "plethysm") else "s")
-    return OTHERS[words[0]](text, words)
+    return OTHERS[words[0]](text, words) if words[0] in OTHERS else Expansion._read(text, parent_of(home, words))

@@ -5,20 +5,36 @@ from __future__ import annotations
 import math
 from collections import UserString
 from collections.abc import Sequence as AnySequence
+from fractions import Fraction
 from numbers import Integral, Rational
 from operator import index
-from typing import Any, Collection, Iterable, List, NoReturn, Optional, Set, SupportsFloat, SupportsIndex, Tuple, TypeVar, Union
+from typing import Any, Iterable, List, NoReturn, Optional, Protocol, Sequence, Set, SupportsFloat, SupportsIndex, Tuple, TypeVar, Union, cast
 
 Numbers = Tuple[int, ...]
 Partition = Numbers
 Permutation = Numbers
 Exponents = Numbers
+# A row of a skew tableau, with None for each cell of the inner partition.
+Row = Tuple[Optional[int], ...]
+
+
+class Array(Protocol):
+    """An array of numpy, or a column of pandas: what mypy knows of them. (Sets and dictionaries have no such method.)"""
+
+    def tolist(self) -> Any: ...
+
+    def __len__(self) -> int: ...
+
+
 # What is taken for a partition, a permutation or a word: sequences (tuples, lists, ranges, ..) and the types of LISTS.
-Shape = Collection[SupportsIndex]
-# What is taken for a tableau: a sequence of its rows from the top, or one of the types of TABLES.
-Rows = Collection[Collection[SupportsIndex]]
+Shape = Union[Sequence[SupportsIndex], Array]
+# What is taken for a tableau: a sequence of its rows from the top, or one of the types of TABLES; of a skew one, the rows of its entries, or rows
+# with None for the cells of the inner partition.
+Rows = Union[Sequence[Union[Shape, Sequence[Optional[SupportsIndex]]]], Array]
 
 Self = TypeVar("Self")
+Label = TypeVar("Label")
+Coefficient = TypeVar("Coefficient", bound=Union[int, Fraction], covariant=True)
 # The types of other packages that are lists of numbers, beside sequences. They are known by their names, so that no package is imported.
 LISTS = set(
     """array.array numpy.ndarray pandas.core.indexes.base.Index pandas.core.series.Series
@@ -69,7 +85,7 @@ def integer(value: object) -> Optional[int]:
         return None
 
 
-def ratio(value: Any) -> "Optional[Tuple[int, int]]":
+def ratio(value: Any) -> Optional[Tuple[int, int]]:
     """Numerator and denominator of a number whose type is registered as rational: those above, and fractions of Python, Sage and sympy."""
     number = integer(value)
     if number is not None:
@@ -105,7 +121,7 @@ def seconds(value: Optional[SupportsFloat], name: str = "timeout") -> Optional[f
     return None if math.isinf(number) else number
 
 
-def items_of(values: Any, name: str, what: str, names: Set[str], dimensions: int) -> "Tuple[Any, ...]":
+def items_of(values: Any, name: str, what: str, names: Set[str], dimensions: int) -> Tuple[Any, ...]:
     """The items of a sequence, or of a value of one of the named types or a type derived from one. What can be gone through once only, or has no
     order or another number of dimensions, is none of them."""
     is_named = any(f"{it.__module__}.{it.__qualname__}" in names for it in type(values).__mro__)
@@ -149,16 +165,27 @@ def partition(values: Shape, name: str) -> Numbers:
     return parts if parts and parts[-1] else without_zeros(parts)
 
 
-def tableau(rows: Rows, name: str) -> Tuple[Numbers, ...]:
-    """The rows of a tableau."""
-    return tuple(numbers(row, f"row {i} of {name}") for i, row in enumerate(items_of(rows, name, "a list of rows", TABLES, 2), 1))
+def skew_tableau(rows: Rows, name: str) -> Tuple[Tuple[Numbers, ...], Numbers]:
+    """The rows of the entries of a tableau, and its inner partition, for whose cells there is None."""
+    entries, inner = cast("List[Numbers]", []), cast("List[int]", [])
+    for i, row in enumerate(items_of(rows, name, "a list of rows", TABLES, 2), 1):
+        empty = 0
+        if isinstance(row, (tuple, list)):
+            while empty < len(row) and row[empty] is None:
+                empty += 1
+        entries.append(numbers(row[empty:] if empty else row, f"row {i} of {name}"))
+        inner.append(empty)
+    if inner != sorted(inner, reverse=True):
+        raise ValueError(f"{name}: the empty cells of {rows!r} are no partition")
+    return tuple(entries), without_zeros(tuple(inner))
 
 
 def spoken(rows: Rows, name: str, inner: Numbers = ()) -> str:
-    """A tableau with this inner partition as it is typed: `1 1 / 2`."""
-    if getattr(rows, "inner", inner) != inner:
+    """A tableau with this inner partition as it is typed: `1 1 / 2`. A list may have the entries alone."""
+    entries, found = skew_tableau(rows, name)
+    if found != inner and (found or isinstance(rows, Fixed)):
         raise ValueError(f"{name}: {rows!r} is not a tableau with the inner partition {inner!r}")
-    return " / ".join(" ".join(map(str, row)) or "." for row in tableau(rows, name)) or "."
+    return " / ".join(" ".join(map(str, row)) or "." for row in entries) or "."
 
 
 def text_of(value: str) -> str:
@@ -168,7 +195,7 @@ def text_of(value: str) -> str:
 
 def words(*parts: Union[str, int, Numbers]) -> str:
     """A line of words: texts and numbers as they are, lists number by number."""
-    them: "List[Union[str, int]]" = []
+    them: List[Union[str, int]] = []
     for it in parts:
         if isinstance(it, tuple):
             them += it
@@ -177,14 +204,9 @@ def words(*parts: Union[str, int, Numbers]) -> str:
     return " ".join(map(str, them))
 
 
-def factors(shapes: Iterable[Shape]) -> "List[Union[str, Numbers]]":
+def factors(shapes: Iterable[Shape]) -> List[Union[str, Numbers]]:
     """The factors of a product with `-` between them."""
-    parts: "List[Union[str, Numbers]]" = []
+    parts: List[Union[str, Numbers]] = []
     for i, shape in enumerate(shapes, 1):
         parts += "-", partition(shape, f"factor {i}")
     return parts[1:]
-
-
-def limit(rows: Optional[SupportsIndex]) -> str:
-    """The words that limit the number of rows."""
-    return "" if rows is None else f"-r {whole(rows, 'rows')}"

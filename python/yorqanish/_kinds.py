@@ -1,24 +1,31 @@
-"""The kinds of answers that are lists of terms: how the labels of each are read, looked up, ordered and written."""
+"""The kinds of labels: how those of each are read, looked up, ordered and written, and what of one is a factor of a command."""
 from __future__ import annotations
 
 from fractions import Fraction
 from functools import lru_cache, partial
+from itertools import zip_longest
 from typing import Any, Callable, Dict, NamedTuple, Tuple, Union
 
-from ._arguments import Numbers, integer, numbers, partition, whole, without_zeros
+from ._arguments import Numbers, numbers, partition, whole, without_zeros
 
 Number = Union[int, Fraction]
 
 
 class Kind(NamedTuple):
     """`term` reads a printed term: its label and its coefficient. `find` makes a label of what is asked for, `order` is the key by which `calc`
-    sorts labels, `plain` and `latex` write one by the letter of the basis."""
+    sorts labels, `size` is the degree of one, `plain` and `latex` write one by the letter of the basis. `one` is the label of 1, and `of` makes a
+    label of a list. `apart` gives the list that is a factor of a command and what is beside it, and `times` multiplies a label by the latter."""
 
-    term: "Callable[[str], Tuple[Any, Number]]"
+    term: Callable[[str], Tuple[Any, Number]]
     find: Callable[[Any], Any]
     order: Callable[[Any], Any]
+    size: Callable[[Any], int]
     plain: Callable[[str, Any], str]
     latex: Callable[[str, Any], str]
+    one: Any = ()
+    of: Callable[[Any], Any] = lambda it: it
+    apart: Callable[[Any], Tuple[Numbers, Any]] = lambda it: (it, ())
+    times: Callable[[Any, Any], Any] = lambda label, beside: label
 
 
 def one(label: str) -> Numbers:
@@ -33,19 +40,19 @@ def one(label: str) -> Numbers:
 listed = lru_cache(1 << 16)(one)
 
 
-def two(label: str) -> "Tuple[Numbers, Numbers]":
+def two(label: str) -> Tuple[Numbers, Numbers]:
     first, second = label.split(" ")
     return listed(first), listed(second)
 
 
-def power(label: str) -> "Tuple[int, Numbers]":
+def power(label: str) -> Tuple[int, Numbers]:
     first, second = label.split("  ")
     if first[:2] != "q^":
         raise ValueError(f"{label!r} is not a label")
     return int(first[2:]), listed(second)
 
 
-def term_of(read: Callable[[str], Any], line: str) -> "Tuple[Any, Number]":
+def term_of(read: Callable[[str], Any], line: str) -> Tuple[Any, Number]:
     coefficient, label = line.split("  ", 1)
     return read(label), Fraction(coefficient) if "/" in coefficient else int(coefficient)
 
@@ -55,24 +62,19 @@ ONE_LIST = lru_cache(1 << 16)(partial(term_of, one))
 PAIR = partial(term_of, two)
 
 
-def one_list(label: Any) -> Any:
-    """A label of one number may be asked for by the number: a[2] is a[(2,)]."""
-    return label if type(label) is tuple or integer(label) is None else (label,)
-
-
 def a_partition(label: Any) -> Numbers:
-    parts = partition(one_list(label), "the label")
+    parts = partition(label, "the label")
     if list(parts) != sorted(parts, reverse=True):
         raise ValueError(f"the label: {label!r} is not a partition")
     return parts
 
 
 def exponents(label: Any) -> Numbers:
-    return without_zeros(numbers(one_list(label), "the label"))
+    return without_zeros(numbers(label, "the label"))
 
 
 def a_permutation(label: Any) -> Numbers:
-    letters = numbers(one_list(label), "the label")
+    letters = numbers(label, "the label")
     end = len(letters)
     if not end or sorted(letters) != list(range(1, end + 1)):
         raise ValueError(f"the label: {label!r} is not a permutation")
@@ -92,6 +94,10 @@ def both(first: Callable[[Any], Any], second: Callable[[Any], Any]) -> Callable[
         return first(label[0]), second(label[1])
 
     return find
+
+
+def added(*exponents: Numbers) -> Numbers:
+    return without_zeros(tuple(map(sum, zip_longest(*exponents, fillvalue=0))))
 
 
 def by_degree(label: Numbers) -> Any:
@@ -138,22 +144,31 @@ def permuted(label: Numbers) -> str:
 
 
 KINDS: Dict[str, Kind] = {
-    "symmetric": Kind(ONE_LIST, a_partition, by_degree, atom, indexed),
+    "symmetric": Kind(ONE_LIST, a_partition, by_degree, sum, atom, indexed),
     "pairs": Kind(
-        *(PAIR, both(a_partition, a_partition), lambda it: (by_degree(it[0]), by_degree(it[1]))),
+        *(PAIR, both(a_partition, a_partition), lambda it: (by_degree(it[0]), by_degree(it[1])), lambda it: sum(it[0]) + sum(it[1])),
         lambda letter, it: f"{atom('s', it[0])}#{atom('s', it[1])}",
         lambda letter, it: f"{indexed('s', it[0])} \\otimes {indexed('s', it[1])}",
+        one=((), ()),
     ),
     "powers": Kind(
         *(partial(term_of, power), both(lambda it: whole(it, "the power of q"), a_partition), lambda it: (it[0], by_degree(it[1]))),
-        lambda letter, it: after(power_of_q(it[0]), atom("s", it[1])),
+        *(lambda it: sum(it[1]), lambda letter, it: after(power_of_q(it[0]), atom("s", it[1]))),
         lambda letter, it: ("" if it[0] == 0 else "q " if it[0] == 1 else f"q^{{{it[0]}}} ") + indexed("\\sigma", it[1]),
+        one=(0, ()),
+        of=lambda it: (0, it),
+        apart=lambda it: (it[1], it[0]),
+        times=lambda label, beside: (label[0] + beside, label[1]),
     ),
-    "monomials": Kind(ONE_LIST, exponents, by_degree, lambda letter, it: powers_of("x", it), lambda letter, it: product("x", it)),
-    "permutations": Kind(ONE_LIST, a_permutation, by_inversions, lambda letter, it: atom("X", it), lambda letter, it: permuted(it)),
+    "monomials": Kind(ONE_LIST, exponents, by_degree, sum, lambda letter, it: powers_of("x", it), lambda letter, it: product("x", it)),
+    "permutations": Kind(ONE_LIST, a_permutation, by_inversions, inversions, lambda letter, it: atom("X", it), lambda letter, it: permuted(it), (1,)),
     "shifts": Kind(
-        *(PAIR, both(a_permutation, exponents), lambda it: (by_inversions(it[0]), by_degree(it[1]))),
+        *(PAIR, both(a_permutation, exponents), lambda it: (by_inversions(it[0]), by_degree(it[1])), lambda it: inversions(it[0]) + sum(it[1])),
         lambda letter, it: after(powers_of("y", it[1]), atom("X", it[0])),
         lambda letter, it: f"{product('y', it[1])} {permuted(it[0])}".strip(),
+        one=((1,), ()),
+        of=lambda it: (it, ()),
+        apart=lambda it: (it[0], it[1]),
+        times=lambda label, beside: (label[0], added(label[1], beside)),
     ),
 }

@@ -3,7 +3,7 @@ from __future__ import annotations
 
 from typing import Iterable, Sequence, Tuple
 
-from ._arguments import Numbers, Shape
+from ._arguments import Numbers, Row, Shape
 from ._kinds import a_partition, a_permutation
 
 # The side of a box, and that of a box of a small shape.
@@ -25,7 +25,7 @@ def square(x: int, y: int, side: int, more: str = "") -> str:
     return f'<rect x="{x}" y="{y}" width="{side}" height="{side}"{more}/>'
 
 
-def boxes(cells: "Sequence[Tuple[int, int, str]]") -> Picture:
+def boxes(cells: Sequence[Tuple[int, int, str]]) -> Picture:
     """Boxes by row and column, with what is written in them."""
     parts = [square(SIDE * j, SIDE * i, SIDE) for i, j, _ in cells]
     for i, j, text in cells:
@@ -34,9 +34,8 @@ def boxes(cells: "Sequence[Tuple[int, int, str]]") -> Picture:
     return Picture(parts, SIDE * max((j + 1 for _, j, _ in cells), default=0), SIDE * max((i + 1 for i, _, _ in cells), default=0))
 
 
-def filled(rows: Sequence[Numbers], inner: Numbers) -> Picture:
-    offsets = (*inner, *[0] * len(rows))
-    return boxes([(i, offsets[i] + j, str(it)) for i, row in enumerate(rows) for j, it in enumerate(row)])
+def filled(rows: Sequence[Row]) -> Picture:
+    return boxes([(i, j, str(it)) for i, row in enumerate(rows) for j, it in enumerate(row) if it is not None])
 
 
 def diagram(outer: Shape, inner: Shape = ()) -> Picture:
@@ -58,7 +57,7 @@ def rothe_diagram(perm: Shape) -> Picture:
     return Picture(parts, size, size)
 
 
-def grid(rows: "Sequence[Sequence[Numbers]]") -> Picture:
+def grid(rows: Sequence[Sequence[Numbers]]) -> Picture:
     side, parts = SMALL * (2 + max((max(len(it), *it) for row in rows for it in row if it), default=0)), []
     for i, row in enumerate(rows):
         for j, shape in enumerate(row):

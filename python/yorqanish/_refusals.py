@@ -19,11 +19,11 @@ class Refusal(ValueError):
         super().__init__(reason(self.kind, line, word, byte))
         self.line, self.word, self.byte = line, word, byte
 
-    def __reduce__(self) -> "Tuple[Any, ...]":
+    def __reduce__(self) -> Tuple[Any, ...]:
         return type(self), (self.line, self.word, self.byte)
 
     @staticmethod
-    def of(text: str, line: str) -> "Refusal":
+    def of(text: str, line: str) -> Refusal:
         """The refusal of this line that `calc` has printed."""
         if text == "! Large\n":
             return TooLarge(line)
@@ -64,4 +64,4 @@ class TooLarge(Refusal, OverflowError):
     kind = "Large"
 
 
-REFUSALS: "Dict[str, Type[Refusal]]" = {it.kind: it for it in (SyntaxRefusal, LiteralRefusal, RangeRefusal, ShapeRefusal)}
+REFUSALS: Dict[str, Type[Refusal]] = {it.kind: it for it in (SyntaxRefusal, LiteralRefusal, RangeRefusal, ShapeRefusal)}

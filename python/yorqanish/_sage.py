@@ -13,32 +13,32 @@ BASES = {"Schur": "s", "powersum": "p", "homogeneous": "h", "elementary": "e", "
 VARIABLES = 16
 
 
-def element(expansion: "Expansion[Any, Any]", ring: Any) -> Any:
-    """The element of Sage that an expansion is, over this ring or over the rational numbers."""
+def element(expansion: Expansion[Any, Any], ring: Any) -> Any:
+    """The element of Sage that an element is, over this ring or over the rational numbers."""
     from sage import all as sage  # type: ignore
 
-    ring = sage.QQ if ring is None else ring
-    scalars = {label: ring(sage.QQ((int(c.numerator), int(c.denominator)))) for label, c in expansion.items()}
+    ring, name = sage.QQ if ring is None else ring, expansion.parent.name
+    scalars = {label: ring(sage.QQ((int(c.numerator), int(c.denominator)))) for label, c in expansion}
     functions = sage.SymmetricFunctions(ring)
     s = functions.s()
-    if expansion.kind == "symmetric":
-        return getattr(functions, expansion.basis)().sum_of_terms((sage.Partition(list(label)), c) for label, c in scalars.items())
-    if expansion.kind == "pairs":
+    if name in BASES.values():
+        return getattr(functions, name)().sum_of_terms((sage.Partition(list(label)), c) for label, c in scalars.items())
+    if name == "tensor_square":
         return sum((c * s(list(a)).tensor(s(list(b))) for (a, b), c in scalars.items()), s.tensor_square().zero())
-    if expansion.kind == "powers":
+    if name == "quantum_ring":
         over = sage.PolynomialRing(ring, "q")
         table: Dict[Any, Any] = {}
         for (power, label), c in scalars.items():
             table[label] = table.get(label, over.zero()) + over(c) * over.gen() ** power
         return sage.SymmetricFunctions(over).s().sum_of_terms((sage.Partition(list(label)), c) for label, c in table.items())
-    if expansion.kind == "monomials":
-        count = max([VARIABLES, *map(len, expansion)])
+    if name == "monomials":
+        count = max([VARIABLES, *map(len, scalars)])
         x = sage.PolynomialRing(ring, [f"x{i}" for i in range(count)]).gens()
         return sum((c * sage.prod(v**e for v, e in zip(x, label)) for label, c in scalars.items()), x[0].parent().zero())
-    if expansion.kind == "permutations":
+    if name == "X":
         schubert = sage.SchubertPolynomialRing(sage.ZZ if ring is sage.QQ else ring)
         return sum((schubert.base_ring()(c) * schubert(list(label)) for label, c in scalars.items()), schubert.zero())
-    raise TypeError("Sage has no ring for a product of double Schubert polynomials")
+    raise TypeError(f"Sage has no ring for elements of {expansion.parent}")
 
 
 def is_element(value: Any) -> bool:
@@ -47,10 +47,10 @@ def is_element(value: Any) -> bool:
     return structure is not None and isinstance(value, structure.Element)
 
 
-def is_same(expansion: "Expansion[Any, Any]", value: Any) -> bool:
-    """Whether an expansion is this element, as Sage compares elements: of one function also in two bases."""
+def is_same(expansion: Expansion[Any, Any], value: Any) -> bool:
+    """Whether an element is this one of Sage, as Sage compares elements: of one function also in two bases."""
     try:
-        ring = value.parent().base_ring() if expansion.kind == "symmetric" else None
+        ring = value.parent().base_ring() if expansion.parent.name in BASES.values() else None
         return bool(element(expansion, ring) == value)
     except (AttributeError, TypeError, ValueError):
         return False
@@ -70,12 +70,7 @@ def forbid_as_coefficient(other: object) -> None:
         raise TypeError("an expansion is compared with 1, or multiplied by an element of Sage over another ring: use to_sage(ring)")
 
 
-def expansion_of(value: Any) -> "Optional[Expansion[Any, Any]]":
-    """The expansion that an element of a basis of Sage's symmetric functions is, if it is one."""
-    if not is_element(value):
-        return None
-    from ._expansion import Expansion
-
-    name = getattr(value.parent(), "basis_name", None)
-    basis = BASES.get(name()) if callable(name) else None
-    return Expansion(value.monomial_coefficients(), basis=basis) if basis else None
+def basis_of(value: Any) -> Optional[str]:
+    """The basis that an element is in, if it is one of Sage's symmetric functions in a basis of `calc`."""
+    name = getattr(value.parent(), "basis_name", None) if is_element(value) else None
+    return BASES.get(name()) if callable(name) else None

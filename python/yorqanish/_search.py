@@ -3,16 +3,23 @@ from __future__ import annotations
 
 import os
 import subprocess
-from typing import Iterator, List, Optional, Union
+import sys
+from typing import TYPE_CHECKING, Iterator, List, Optional, Union
 
-from ._library import Library
-from ._program import Program
 from ._ways import NoCalculator, Way
+
+# (Windows has no such pipes and processes: there the library answers)
+IS_WINDOWS = sys.platform == "win32"
+if TYPE_CHECKING or not IS_WINDOWS:
+    from ._program import Program
+if TYPE_CHECKING:
+    from ._library import Library
 
 BESIDE = os.path.dirname(os.path.abspath(__file__))
 # In a checkout or an archive, if the package is used there and not installed: the script that says which files are those of its sources.
 GENUINE = os.path.join(BESIDE, "../../release/genuine") if os.path.isfile(os.path.join(BESIDE, "../pyproject.toml")) else ""
-LIBRARY = "libyorqanish.so"
+LIBRARY = {"darwin": "libyorqanish.dylib", "win32": "yorqanish.dll"}.get(sys.platform, "libyorqanish.so")
+PROGRAM = "calc.exe" if IS_WINDOWS else "calc"
 
 
 def on_path(name: str) -> Iterator[str]:
@@ -36,7 +43,9 @@ def near(name: str) -> Optional[str]:
     if not os.path.isfile(GENUINE):
         beside = os.path.join(BESIDE, name)
         return beside if os.path.exists(beside) else None
-    done = subprocess.run(["sh", GENUINE, name], stdout=subprocess.PIPE, stderr=subprocess.DEVNULL, universal_newlines=True)
+    # (which has one name for the program and for the library of each machine)
+    asked = {PROGRAM: "calc", LIBRARY: "libyorqanish.so"}.get(name, name)
+    done = subprocess.run(["sh", GENUINE, asked], stdout=subprocess.PIPE, stderr=subprocess.DEVNULL, universal_newlines=True)
     if done.returncode not in (0, 4):
         raise NoCalculator(done.stdout.strip())
     return done.stdout.strip() if done.returncode == 0 else None
@@ -47,11 +56,12 @@ def program(given: Optional[str]) -> Program:
     path = named(given, "YORQANISH_CALC")
     if path:
         return Program(path)
-    beside = near("calc")
+    beside = near(PROGRAM)
     if beside:
         return Program(beside)
     refused: List[str] = []
-    for path in on_path("calc"):
+    # (Debian has another program `calc`, so that a package of ours calls the program `yorqanish`)
+    for path in (*on_path("calc"), *on_path("yorqanish")):
         try:
             return Program(path)
         except NoCalculator as error:
@@ -61,6 +71,9 @@ def program(given: Optional[str]) -> Program:
 
 def library(given: Optional[str]) -> Library:
     """The library at the path that is given; else that of YORQANISH_LIBRARY; else in this package; else where the system looks."""
+    # (ctypes takes time, and is not to be had in each subinterpreter)
+    from ._library import Library
+
     path = named(given, "YORQANISH_LIBRARY")
     if path:
         return Library(os.path.abspath(path))
@@ -69,8 +82,8 @@ def library(given: Optional[str]) -> Library:
 
 def way(library_given: Union[bool, str, None], program_given: Optional[str], digest: Optional[str] = None) -> Way:
     """The library if it is asked for, and else the program, which is to be that of this digest, if one is given."""
-    if library_given:
-        return library(None if library_given is True else library_given)
+    if library_given or IS_WINDOWS:
+        return library(library_given if isinstance(library_given, str) else None)
     found = program(program_given)
     if digest and found.digest and found.digest != digest:
         raise NoCalculator(f"{found.path} is not the program that the Calculator had where it was made")

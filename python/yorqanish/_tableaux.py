@@ -1,79 +1,73 @@
 """Tableaux, and pairs of them."""
 from __future__ import annotations
 
+from types import GeneratorType
 from typing import Any, NamedTuple, Optional, Tuple
 
-from ._arguments import Fixed, Numbers, Rows, Shape, partition, tableau
+from ._arguments import Fixed, Numbers, Row, Rows, Shape, partition, skew_tableau, without_zeros
 from ._pictures import filled
 
 
-def rows_of(line: str) -> "Tuple[Numbers, ...]":
+def rows_of(line: str) -> Tuple[Numbers, ...]:
     """The rows of a tableau as it is printed: `1 1 / 2`."""
     if line == ".":
         return ()
     return tuple(() if row == "." else tuple(map(int, row.split(" "))) for row in line.split(" / "))
 
 
-class Tableau(Fixed, Tuple[Numbers, ...]):
-    """A tableau: the tuple of its rows from the top. For a skew tableau `inner` is the inner partition, and the rows have the entries
-    to the right of it. It does not change.
-
-    A tableau equals another one with the same rows and the same inner partition, and one without an inner partition equals the tuple of its
-    rows.
-
+class Tableau(Fixed, Tuple[Row, ...]):
+    """A tableau: the tuple of its rows from the top, in which None stands for a cell of the inner partition, as in Sage. `inner` is the inner
+    partition, which can also be given beside the rows of the entries. A tableau does not change, and equals the tuple of its rows.
     >>> t = Tableau(((1, 1), (2,)))
     >>> t == ((1, 1), (2,)), t[0], str(t)
     (True, (1, 1), '1 1 / 2')
-    >>> skew = Tableau(((1,), (12,)), inner=(1,))
-    >>> skew, skew == ((1,), (12,)), skew == Tableau(((1,), (12,)))
-    (Tableau(((1,), (12,)), inner=(1,)), False, False)
-    >>> print(skew.latex("young"))
-    \\young(:1,{12})
+    >>> skew = Tableau([[None, 1], [12]])
+    >>> skew, skew.inner, skew == Tableau([[1], [12]], inner=[1])
+    (Tableau(((None, 1), (12,))), (1,), True)
+    >>> print(skew, skew.latex("young"))
+    1 / 12 \\young(:1,{12})
     """
 
-    inner: Numbers
+    __slots__ = ()
 
-    def __new__(cls, rows: Rows = (), inner: Optional[Shape] = None) -> "Tableau":
-        return cls._made(tableau(rows, "rows"), rows.inner if inner is None and isinstance(rows, Tableau) else partition(inner or (), "inner"))
+    def __new__(cls, rows: Rows = (), *, inner: Optional[Shape] = None) -> Tableau:
+        if isinstance(rows, Tableau) and inner is None:
+            return rows
+        # (dataclasses copy a tuple by a generator of its items)
+        entries, found = skew_tableau(tuple(rows) if isinstance(rows, GeneratorType) else rows, "rows")
+        holes = found if inner is None else partition(inner, "inner")
+        if found not in ((), holes):
+            raise ValueError(f"{rows!r} is not a tableau with the inner partition {holes!r}")
+        return cls._made(entries, holes)
 
     @classmethod
-    def _made(cls, rows: "Tuple[Numbers, ...]", inner: Numbers) -> "Tableau":
-        """A tableau of rows and an inner partition that are tuples of numbers."""
-        made = tuple.__new__(cls, rows)
-        made.__dict__["inner"] = inner
-        return made
+    def _made(cls, entries: Tuple[Numbers, ...], inner: Numbers) -> Tableau:
+        """A tableau of the rows of its entries and an inner partition."""
+        offsets = (*inner, *[0] * len(entries)) if inner else (0,) * len(entries)
+        return tuple.__new__(cls, ((None,) * offset + row for offset, row in zip(offsets, entries)) if inner else entries)
 
-    def __eq__(self, other: object) -> bool:
-        if not isinstance(other, tuple):
-            return NotImplemented
-        return tuple.__eq__(self, other) and self.inner == getattr(other, "inner", ())
-
-    __ne__ = object.__ne__
-
-    def __hash__(self) -> int:
-        return hash((tuple(self), self.inner)) if self.inner else tuple.__hash__(self)
+    @property
+    def inner(self) -> Numbers:
+        return without_zeros(tuple(row.count(None) for row in self))
 
     def __repr__(self) -> str:
-        return f"Tableau({tuple(self)!r}{f', inner={self.inner!r}' if self.inner else ''})"
+        return f"Tableau({tuple(self)!r})"
 
-    def __reduce__(self) -> "Tuple[Any, ...]":
-        return Tableau, (tuple(self), self.inner)
+    def __reduce__(self) -> Tuple[Any, ...]:
+        return Tableau, (tuple(self),)
 
     def __str__(self) -> str:
         """The tableau as `calc` prints it."""
-        return " / ".join(" ".join(map(str, row)) or "." for row in self) or "."
-
-    def _offset(self, row: int) -> int:
-        return self.inner[row] if row < len(self.inner) else 0
+        return " / ".join(" ".join(map(str, filter(None, row))) or "." for row in self) or "."
 
     def latex(self, style: str = "ytableau") -> str:
         """The tableau as LaTeX. `style` is `ytableau` (the package of this name), `young` (the packages young and youngtab) or `array` (no
         package)."""
         if style == "ytableau":
-            lines = (" & ".join(["\\none"] * self._offset(i) + list(map(str, row))) for i, row in enumerate(self))
+            lines = (" & ".join("\\none" if it is None else str(it) for it in row) for row in self)
             return "\\begin{ytableau} " + " \\\\ ".join(lines) + " \\end{ytableau}"
         if style == "young":
-            entries = (":" * self._offset(i) + "".join(str(it) if it < 10 else f"{{{it}}}" for it in row) for i, row in enumerate(self))
+            entries = ("".join(":" if it is None else str(it) if it < 10 else f"{{{it}}}" for it in row) for row in self)
             return f"\\young({','.join(entries)})"
         if style == "array":
             return self._array()
@@ -83,15 +77,15 @@ class Tableau(Fixed, Tuple[Numbers, ...]):
         """Boxes without a package, which a notebook can show."""
         if not any(self):
             return "\\emptyset"
-        width = max(self._offset(i) + len(row) for i, row in enumerate(self))
-        lines = (" & ".join([""] * self._offset(i) + [f"\\boxed{{{it}}}" for it in row]) for i, row in enumerate(self))
+        width = max(map(len, self))
+        lines = (" & ".join("" if it is None else f"\\boxed{{{it}}}" for it in row) for row in self)
         return f"\\begin{{array}}{{{'c' * width}}} " + " \\\\ ".join(lines) + " \\end{array}"
 
     def _repr_latex_(self) -> str:
         return f"${self._array()}$"
 
     def _repr_svg_(self) -> str:
-        return filled(self, self.inner).svg
+        return filled(self).svg
 
     _latex_ = _array
 

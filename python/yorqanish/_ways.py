@@ -1,7 +1,8 @@
 """The two ways to the calculator: the program in processes of its own, and the C library."""
 from __future__ import annotations
 
-from typing import Iterator, List, Optional, Protocol, Sequence
+import copy
+from typing import Iterator, List, Optional, Sequence
 
 from ._arguments import text_of
 
@@ -36,6 +37,8 @@ LAST, END = b"rsk", b"P .\nQ .\n"
 BREAK = b"--\n"
 ENDED = BREAK + END
 
+# What is sent for a line that a batch passes over, where it is to be refused: it is refused at its beginning.
+NO_COMMAND = b"!"
 # A line of a batch has at most this many bytes.
 LONGEST = 4096
 # How long the first answers may take, in seconds.
@@ -50,20 +53,46 @@ class Ended(NoCalculator):
     """The program has ended in the middle of a command."""
 
 
-class Way(Protocol):
-    """How lines of words become the texts of their answers."""
+class Way:
+    """How lines of words become the texts of their answers: `answer` gives that of one line of whatever length, `blocks` those of lines of a batch,
+    none of which it passes over, and `listed` the lines of an answer as they are listed. `close` lets go of what is held, and ends what still runs;
+    whoever asks later is refused. `apart` is the same for some of its calls, which can be closed by themselves, and may share idle processes."""
+
+    path: str
+    can_be_stopped: bool
+    # What the program's file is known by.
+    digest: Optional[str] = None
+    _is_closed = False
+    # The way of which this one is a part.
+    _whole: Optional[Way] = None
 
     def answer(self, line: bytes, seconds: Optional[float]) -> str:
-        """The text of one line, of whatever length."""
+        # (in a line `batch` and `work` are no commands, however long it is)
+        return self.blocks([line], seconds)[0] if len(line) <= LONGEST or is_of_batch(line) else self._alone(line, seconds)
+
+    def apart(self, shares: bool) -> Way:
+        other = copy.copy(self)
+        other._whole = self
+        return other
+
+    def is_over(self) -> bool:
+        return self._is_closed or self._whole is not None and self._whole._is_closed
+
+    def check(self) -> None:
+        if self.is_over():
+            raise closed()
 
     def blocks(self, lines: Sequence[bytes], seconds: Optional[float]) -> List[str]:
-        """The texts of the lines of a batch, none of which it passes over."""
+        raise NotImplementedError
 
     def listed(self, line: bytes, seconds: Optional[float]) -> Iterator[str]:
-        """The lines of an answer as they are listed."""
+        raise NotImplementedError
+
+    def _alone(self, line: bytes, seconds: Optional[float]) -> str:
+        raise NotImplementedError
 
     def close(self) -> None:
-        """Lets go of what is held, and ends what still runs. Whoever asks later is refused."""
+        raise NotImplementedError
 
 
 def sent(line: str) -> Optional[bytes]:
@@ -71,7 +100,6 @@ def sent(line: str) -> Optional[bytes]:
 
     A line feed at its end is dropped, with or without a carriage return before it. One within it, and a zero byte, are sent as another byte
     that is in no word of a command, and is refused at its place.
-
     >>> sent("mult 1 - 1\\n"), sent("# a comment"), sent(" "), sent("mult 1\\n- 1")
     (b'mult 1 - 1', None, None, b'mult 1\\x01- 1')
     """
@@ -98,6 +126,10 @@ def is_passed_over(data: bytes) -> bool:
 def is_of_batch(data: bytes) -> bool:
     """Whether a line names a command that is none in a line: `batch` and `work` read or write much that is no answer."""
     return data.replace(b"\t", b" ").strip(b" ").split(b" ")[0] in (b"batch", b"work")
+
+
+def not_calc(path: str) -> NoCalculator:
+    return NoCalculator(f"{path} does not answer as calc does; is it another program or library of this name, or another version?")
 
 
 def no_memory() -> MemoryError:

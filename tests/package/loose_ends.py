@@ -11,7 +11,7 @@ import time
 from decimal import Decimal
 from fractions import Fraction
 
-from common import CLOCKS, LIBRARY, PROGRAM, Skipped, comes, main, need, printed, raises, same, within
+from common import CLOCKS, HANGS, LIBRARY, PROGRAM, Skipped, comes, main, need, printed, raises, same, within
 
 from yorqanish import Calculator, Expansion, NoCalculator, Refusal, _program
 
@@ -62,6 +62,38 @@ def test_calls_while_python_ends():
             with within(60):
                 done = subprocess.run([sys.executable, "-c", script], capture_output=True, text=True, timeout=60)
             same((done.returncode, done.stdout), (0, ""))
+
+
+def test_a_del_at_the_end_of_python():
+    """It is answered: the program's file was closed before it."""
+    script = (
+        "import os\nfrom yorqanish import Calculator\nclass Late:\n    def __init__(self): self.itself, self.calc = self, Calculator()\n"
+        "    def __del__(self): self.calc._way._idle.clear(); os.write(1, b'%d' % self.calc.coef([2], [1], [1]))\nlate = Late()\nlate.calc.coef([2], [1], [1])\n"
+    )
+    done = subprocess.run([sys.executable, "-c", script], capture_output=True, text=True, timeout=HANGS)
+    same((done.stdout, done.stderr, done.returncode), ("1", "", 0))
+
+
+def test_a_call_after_the_processes_have_ended():
+    """At the end of Python the numbers of their pipes may be those of other files, to which nothing is written."""
+    script = (
+        "import atexit, os, select\ndef late():\n    pipes = [os.pipe() for _ in range(8)]\n    print(calc.coef([2], [1], [1]))\n"
+        "    print(select.select([it for it, _ in pipes], [], [], 0)[0])\natexit.register(late)\n"
+        "from yorqanish import Calculator\ncalc = Calculator()\ncalc.coef([2], [1], [1])\n"
+    )
+    done = subprocess.run([sys.executable, "-c", script], capture_output=True, text=True, timeout=HANGS)
+    same((done.stdout, done.stderr, done.returncode), ("1\n[]\n", "", 0))
+
+
+def test_descriptors_that_somebody_closed():
+    """What asks is refused or answered, and does not wait."""
+    script = (
+        "import os\nfrom yorqanish import Calculator, NoCalculator\ncalc = Calculator()\ncalc.coef([2], [1], [1])\nos.closerange(3, 200)\n"
+        "got = []\nfor _ in range(4):\n    try: got.append(calc.coef([3, 2, 1], [2, 1], [2, 1]))\n    except (OSError, NoCalculator): got.append(2)\n"
+        "print(got, flush=True)\nos._exit(0)\n"
+    )
+    done = subprocess.run([sys.executable, "-c", script], capture_output=True, text=True, timeout=HANGS)
+    same((done.stdout, done.returncode), ("[2, 2, 2, 2]\n", 0))
 
 
 def test_times_of_any_type():
@@ -156,7 +188,7 @@ def test_what_is_raised_where_lines_come_from():
             got = []
             with raises(KeyError, "broken"):
                 for it in CALC.batch(broken(count), **how):
-                    got.append(it.answer[len(got) + 2])
+                    got.append(it.answer[[len(got) + 2]])
             same(got, [1] * count)
     got = []
     with raises(TypeError, "line"):
@@ -177,7 +209,7 @@ def test_a_slow_source():
     for how in ({}, {"workers": 3}):
         came, waited = [], []
         for n, it in enumerate(CALC.batch(slow(), **how)):
-            same(it.answer[n + 2], 1)
+            same(it.answer[[n + 2]], 1)
             waited.append(time.monotonic() - came[n])
         behind = [int(it // 0.1) for it in waited]
         assert max(behind) <= 6 or not CLOCKS and max(behind) < 15, behind
@@ -199,11 +231,41 @@ def test_a_long_answer_goes_on():
         same(calc.plethysm("s", small, "p[1]"), calc.expand("s", small))
 
 
+def test_no_lock_is_taken_where_an_interrupt_comes():
+    """`subprocess` and `threading` take a lock in one step and say that they have it in the next: an interrupt in between left it held for ever, and
+    the end of that process was waited for in vain. So nothing of theirs runs in the thread in which signals are handled."""
+    entered = set()
+
+    def profile(frame, event, argument):
+        name = os.path.basename(frame.f_code.co_filename)
+        if event == "call" and name in ("subprocess.py", "threading.py", "queue.py"):
+            entered.add((name, frame.f_code.co_name))
+
+    gc.collect()
+    sys.setprofile(profile)
+    try:
+        with Calculator(program=PROGRAM) as calc:
+            listed = calc.tab((9, 8, 7, 6), (8, 7, 6))
+            next(listed)
+            listed.close()
+            try:
+                calc.mult(LONG, LONG, timeout=0.05)
+            except TimeoutError:
+                pass
+            calc._way._idle.clear()
+            same(calc.coef([2], [1], [1]), 1)
+            calc.expand("m", "+".join(["1"] * 2048))
+            same([it.answer for it in calc.batch(["coef 2 - 1 - 1"] * 40, workers=3)], [1] * 40)
+    finally:
+        sys.setprofile(None)
+    same(entered, set())
+
+
 def test_ctrl_c_while_processes_are_ended():
     """Neither processes nor descriptors are left, whenever it comes."""
     gc.collect()
     before, mine, hits = descriptors(), len(children()), 0
-    is_armed = [False]
+    is_armed, calc, listed = [False], None, None
 
     def interrupt(*_):
         if is_armed[0]:
@@ -212,7 +274,7 @@ def test_ctrl_c_while_processes_are_ended():
 
     signal.signal(signal.SIGALRM, interrupt)
     until = time.monotonic() + 8
-    while time.monotonic() < until:
+    while time.monotonic() < until or hits <= 50:
         try:
             is_armed[0] = True
             signal.setitimer(signal.ITIMER_REAL, 0.0001 + hits % 97 * 0.0005)
@@ -227,7 +289,6 @@ def test_ctrl_c_while_processes_are_ended():
     gc.collect()
     with Calculator(program=PROGRAM) as last:
         same(last.coef([2], [1], [1]), 1)
-    assert hits > 50, (hits, calc, listed)
     comes(lambda: len(children()) <= mine + 1)
     assert descriptors() <= before + 8, (before, descriptors(), hits)
 
@@ -242,7 +303,7 @@ def test_a_thousand_tasks():
 
     with within(60):
         got = asyncio.run(all_of_them())
-    same([it[n % 30 + 2] for n, it in enumerate(got)], [1] * 1000)
+    same([it[[n % 30 + 2]] for n, it in enumerate(got)], [1] * 1000)
     same([len(it) for it in got], [2] * 1000)
 
 

@@ -40,6 +40,14 @@ def test_an_array_of_two_dimensions_is_no_list():
             CALC.mult(wrong, [1])
 
 
+def test_a_scalar_that_is_no_number_equals_no_element():
+    """(a scalar of numpy has `flat`, as an array has, and it was compared with itself without end)"""
+    for scalar in (np.float64(1), np.bool_(True), np.complex128(1), np.datetime64("2000-01-01"), np.timedelta64(1, "s"), np.str_("1"), np.bytes_(b"1")):
+        for x in (CALC.s[1], CALC.s(1), CALC.s(0)):
+            same((bool(x == scalar), bool(x != scalar), x in [scalar]), (False, True, False))
+    same((CALC.s(1) == np.int8(1), (CALC.s(1) == np.array([1, 2.5], dtype=object)).tolist()), (True, [True, False]))
+
+
 def test_a_column_of_pandas_is_a_list_and_a_table_is_none():
     """(a table is gone through by the names of its columns, which can be numbers)"""
     pandas = need("pandas")

@@ -28,7 +28,7 @@ from sage.all import (
     vector,
 )
 
-from yorqanish import Calculator, Expansion
+from yorqanish import Calculator
 
 CALC = Calculator(program=PROGRAM)
 FUNCTIONS = SymmetricFunctions(QQ)
@@ -78,7 +78,7 @@ def test_a_residue_is_no_number():
         with raises(TypeError, "factor 1"):
             CALC.mult([wrong], [1])
         with raises(TypeError, "exact"):
-            Expansion({(2,): wrong})
+            CALC.s({(2,): wrong})
         with raises(TypeError, "exact"):
             CALC.mult([1], [1]) * wrong
     for ring in (GF(5), Zmod(6)):
@@ -138,12 +138,14 @@ def test_an_expansion_among_elements():
 
 
 def test_an_element_is_an_expansion():
-    same(Expansion(p[2, 1] / 2), Expansion({(2, 1): QQ(1) / 2}, basis="p"))
+    same((CALC.p(p[2, 1] / 2), CALC.s(p[2]).parent), (CALC.p({(2, 1): QQ(1) / 2}), CALC.s))
+    same((CALC.s(p[2]), CALC.s(Partition([2, 1])), CALC.s[Partition([2, 1])], CALC.X(Permutation([2, 1]))), (CALC.s(CALC.p[2]), CALC.s[2, 1], CALC.s[2, 1], CALC.X[2, 1]))
     for wrong in (SymmetricFunctions(QQ).forgotten()[2], s[1].tensor(s[1]), ZZ["x"]([2, 1]), SchubertPolynomialRing(ZZ)([2, 1])):
         with raises(TypeError):
-            Expansion(wrong)
-    with raises(ValueError):
-        Expansion(p[2], basis="s")
+            CALC.s(wrong)
+    for wrong in (CALC.mult([1], [1], rows=2), CALC.fusion(2, 1, [1], [1]), CALC.cohomology(2, 4)[1]):
+        with raises(TypeError, "no ring"):
+            wrong.to_sage()
 
 
 def test_latex():

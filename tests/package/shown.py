@@ -95,7 +95,7 @@ def test_answers_go_on():
     same(CALC.expand("p", product), CALC.expand("p", "s[2,1]*s[1]"))
     same(CALC.expand("s", CALC.expand("p", product)), product)
     same(CALC.plethysm("s", CALC.expand("h", "h[2]"), "h[2]"), CALC.plethysm("s", "h[2]", "h[2]"))
-    same(CALC.expand("s", product - product), Expansion())
+    same(CALC.expand("s", product - product), 0)
     with raises(TypeError, "expression"):
         CALC.expand("p", CALC.coprod([1]))
     with raises(TypeError, "expression"):
@@ -106,56 +106,47 @@ def test_answers_go_on():
 
 def test_sums_and_multiples():
     a, b = CALC.mult([1], [1]), CALC.skew([2, 1], [1])
-    same((a == b, a != b, a - b == Expansion(), len(a - b)), (True, False, True, 0))
+    same((a == b, a != b, a - b == CALC.s.zero(), len(a - b)), (True, False, True, 0))
     same((a + b, 2 * a, a * 2, -a, a / 2 * 2), ({(2,): 2, (1, 1): 2}, a + b, a + b, {(2,): -1, (1, 1): -1}, a))
     half = a / 2
-    same((half[2], type((half + half)[2]), str(half)), (Fraction(1, 2), int, "1/2*s[2]+1/2*s[1,1]"))
+    same((half[[2]], type((half + half)[[2]]), str(half)), (Fraction(1, 2), int, "1/2*s[2]+1/2*s[1,1]"))
     same(Fraction(1, 3) * a, {(2,): Fraction(1, 3), (1, 1): Fraction(1, 3)})
-    p = CALC.expand("p", "s[2]")
-    for wrong in (lambda: a + p, lambda: a - CALC.coprod([1]), lambda: a | p):
-        with raises(ValueError):
-            wrong()
-    for wrong in (lambda: a * Expansion({(1,): 1}), lambda: a * 0.5, lambda: a / 0.5, lambda: a + 1, lambda: 1 - a):
+    for wrong in (lambda: a - CALC.coprod([1]), lambda: a * 0.5, lambda: a / 0.5, lambda: a + 1.0, lambda: 1.0 - a, lambda: a + None, lambda: a * {(1,): 1}, lambda: a / a):
         with raises(TypeError):
             wrong()
     with raises(ZeroDivisionError):
         a / 0
 
 
-def test_kind_and_basis_are_kept():
+def test_the_parent_is_kept():
     a = CALC.expand("p", "h[2]")
-    for it in (a.copy(), a | a, a + a, -a, a / 3, pickle.loads(pickle.dumps(a)), a | {(2,): 5}):
-        same((type(it), it.kind, it.basis), (Expansion, "symmetric", "p"))
-    same((a | {(2, 0): 5})[2], 5)
-    assert Expansion({(2,): 1}) != Expansion({(2,): 1}, basis="p") and Expansion({(2,): 1}) != Expansion({(2,): 1}, "monomials")
-    same(Expansion({(2, 0): 1, 1: 2}), {(2,): 1, (1,): 2})
+    for it in (a.copy(), a + a, -a, +a, a / 3, a * 2, a - a, a.filter(lambda label, c: False), a.map(lambda label, c: (label, 2)), a**3, a.omega()):
+        same((type(it), it.parent), (Expansion, CALC.p))
+    same(CALC.s({(2, 0): 1, (1,): 2}), {(2,): 1, (1,): 2})
     same(hash(CALC.mult([1], [1])), hash(CALC.skew([2, 1], [1])))
-    for terms in ({"spam": 1}, {(1, 2): 1}, {(2,): 0.5}):
+    for terms in ({"spam": 1}, {(1, 2): 1}, {(2,): 0.5}, {2: 1}, {(2, 1): True}):
         with raises((TypeError, ValueError)):
-            Expansion(terms)
+            CALC.s(terms)
 
 
 def test_no_coefficient_is_lost():
     """A label that is given twice, if only in two ways, is an error, and not the last of its coefficients."""
-    for terms in ([((2,), 1), ((2,), 5)], {(2,): 1, (2, 0): 5}, {(2,): 1, 2: 5}):
-        with raises(ValueError, "(2,)", "twice"):
-            Expansion(terms)
-    with raises(ValueError, "(2, 1)", "twice"):
-        Expansion({(2, 1): 1, (2, 1, 3): 2}, "permutations")
     with raises(ValueError, "(2,)", "twice"):
-        CALC.mult([1], [1]) | {(2,): 1, (2, 0): 5}
+        CALC.s({(2,): 1, (2, 0): 5})
+    with raises(ValueError, "(2, 1)", "twice"):
+        CALC.X({(2, 1): 1, (2, 1, 3): 2})
+    same(CALC.mult([1], [1]).map(lambda label, c: (label[:1] + (0,), c)), {(2,): 1, (1,): 1})
 
 
 def test_a_coefficient_0_is_no_term():
-    same((Expansion({(2,): 0}), len(Expansion({(2,): 0, (1, 1): 1})), str(Expansion({(2,): 0}))), (Expansion(), 1, "0"))
-    a = CALC.mult([1], [1])
-    same((a | {(2,): 0}, a | Expansion({(3,): 0})), ({(1, 1): 1}, a))
+    same((CALC.s({(2,): 0}), len(CALC.s({(2,): 0, (1, 1): 1})), str(CALC.s({(2,): 0}))), (0, 1, "0"))
 
 
 def test_latex():
-    same(Expansion({(2,): 1, (1, 1): -1}).latex(), "s_{2}-s_{1,1}")
-    same(Expansion({(2,): Fraction(1, 2), (): 3}, basis="p").latex(), "\\frac{1}{2}p_{2}+3p_{\\emptyset}")
-    same(Expansion({(2, 1): 1, (): 2}, "monomials").latex(), "x_{1}^{2} x_{2}+2")
+    same(CALC.s({(2,): 1, (1, 1): -1}).latex(), "s_{2}-s_{1,1}")
+    same(CALC.p({(2,): Fraction(1, 2), (): 3}).latex(), "\\frac{1}{2}p_{2}+3p_{\\emptyset}")
+    same(CALC.monomials({(2, 1): 1, (): 2}).latex(), "x_{1}^{2} x_{2}+2")
+    same(CALC.cohomology(2, 4)[1].latex(), "\\sigma_{1}")
 
 
 def test_a_long_list_in_a_notebook():
@@ -169,7 +160,7 @@ def test_a_long_list_in_a_notebook():
 
 def test_tableaux_are_shown():
     skew = list(CALC.tab((2, 1), (1,)))[1]
-    same((skew, str(skew), skew.inner), (Tableau(((1,), (2,)), inner=(1,)), "1 / 2", (1,)))
+    same((skew, str(skew), skew.inner), (((None, 1), (2,)), "1 / 2", (1,)))
     same(skew.latex(), "\\begin{ytableau} \\none & 1 \\\\ 2 \\end{ytableau}")
     same(skew.latex("young"), "\\young(:1,2)")
     same(skew._repr_latex_(), "$\\begin{array}{cc}  & \\boxed{1} \\\\ \\boxed{2} \\end{array}$")

@@ -1,16 +1,12 @@
 """Batches over several processes: the same blocks in the same order as those of one batch."""
-import heapq
-import itertools
 import os
 import random
 import subprocess
 import sys
 import threading
 import time
-from concurrent.futures import Future, ProcessPoolExecutor, ThreadPoolExecutor
-from types import SimpleNamespace
 
-from common import CLOCKS, LIBRARY, PROGRAM, Skipped, main, need, printed, raises, same, within
+from common import CLOCKS, LIBRARY, PROGRAM, Skipped, main, printed, raises, same, within
 
 from yorqanish import Calculator, Refusal, _batch
 
@@ -63,35 +59,10 @@ def test_workers_over_the_library():
             same_blocks(calc.batch(LINES, workers=4))
 
 
-def test_executors():
-    with ProcessPoolExecutor(3) as executor:
-        same_blocks(CALC.batch(LINES, executor=executor))
-        same_blocks(CALC.batch(LINES, executor=executor, workers=2))
-    with ThreadPoolExecutor(3) as executor:
-        same_blocks(CALC.batch(LINES, executor=executor))
-
-
-def test_dask():
-    """Over the workers of a cluster of Dask on this machine."""
-    distributed, dask = need("distributed"), need("dask")
-    # (on a busy machine the workers start slowly)
-    dask.config.set({"distributed.comm.timeouts.connect": "300s", "distributed.comm.timeouts.tcp": "300s"})
-    with distributed.LocalCluster(n_workers=3, threads_per_worker=1, dashboard_address=None) as cluster, distributed.Client(cluster) as client:
-        same_blocks(CALC.batch(LINES, executor=client.get_executor(), workers=3))
-
-
-def test_mpi():
-    """Over mpi4py's executor, whose processes this one starts."""
-    futures = need("mpi4py.futures").futures
-    os.environ.update(OMPI_ALLOW_RUN_AS_ROOT="1", OMPI_ALLOW_RUN_AS_ROOT_CONFIRM="1", OMPI_MCA_rmaps_base_oversubscribe="1")
-    with futures.MPIPoolExecutor(2, env={"YORQANISH_CALC": PROGRAM}, path=sys.path) as executor:
-        same_blocks(CALC.batch(LINES, executor=executor, workers=2))
-
-
 def test_progress():
     for how in ({}, {"workers": 3}):
         told = []
-        for _ in CALC.batch(LINES, told.append, **how):
+        for _ in CALC.batch(LINES, progress=told.append, **how):
             pass
         same(told, list(range(1, len(LINES) + 1)))
 
@@ -102,90 +73,65 @@ MIXED = [LIGHT] * 3000 + [HEAVY] * 16 + [LIGHT] * 3000
 PATTERNS = [[LIGHT] * 3000 + [HEAVY, *[LIGHT] * between] * 128 + [LIGHT] * 3000 for between in (2, 3, 4)]
 
 
-def test_no_process_is_given_many_heavy_lines_at_once():
-    """Of heavy neighbours each of four processes is given its part, or one more, however fast the machine is."""
-    given, piece = [], _batch.piece
+class Slept:
+    """A way on which a heavy line takes this time, and a light one next to none: without a processor, so that it is so on each machine."""
 
-    def noted(way, lines, seconds):
-        given.append(lines.count(HEAVY))
-        return piece(way, lines, seconds)
+    can_be_stopped = True
 
-    _batch.piece = noted
-    same(sum(1 for it in CALC.batch(MIXED, workers=4) if it.refusal is None), len(MIXED))
-    assert sum(given) >= 16 and max(given) <= 5, given
-
-
-class Simulated:
-    """Four simulated processes with their own clocks, on which a line takes the time that it is given. It replaces the queue of finished pieces,
-    so that pieces finish in the order of these clocks."""
-
-    def __init__(self, cost):
-        self.cost, self.now = cost, 0.0
-        self.free, self.ends, self.lines, self.finished = [0.0] * 4, [], [[] for _ in range(4)], []
-        self.number = itertools.count()
-
-    def monotonic(self):
-        return self.now
+    def __init__(self, heavy):
+        self.heavy, self.spent, self.ended = heavy, [], False
 
     def blocks(self, lines, seconds):
-        self.now += 0.0001 + sum(map(self.cost, lines))
-        return [line.decode() for line in lines]
+        wanted = 0.0001 + sum(self.heavy if it == HEAVY.encode() else 0.00002 for it in lines)
+        time.sleep(wanted if seconds is None else min(wanted, seconds))
+        self.spent.append(min(wanted, wanted if seconds is None else seconds))
+        if seconds is not None and wanted > seconds:
+            raise TimeoutError
+        return [it.decode() for it in lines]
 
-    def submit(self, lines):
-        """Runs a piece on the process that is free first."""
-        main, which = self.now, self.free.index(min(self.free))
-        self.now = max(main, self.free[which])
-        done = _batch.piece(self, lines, None)
-        self.lines[which] += [it.line for it in done.outcomes]
-        self.free[which], future = self.now, Future()
-        heapq.heappush(self.ends, (self.now, next(self.number), future, done))
-        self.now = main
-        return future
-
-    def put(self, slot):
-        self.finished.append(slot)
-
-    def empty(self):
-        return not self.finished
-
-    def get(self):
-        while not self.finished:
-            end, _, future, done = heapq.heappop(self.ends)
-            self.now = max(self.now, end)
-            future.set_result(done)
-        return self.finished.pop(0)
-
-
-def in_a_row(lines):
-    """The length of the longest run of consecutive heavy lines."""
-    return max(map(len, "".join("h" if it == HEAVY else "." for it in lines).split(".")))
+    def close(self):
+        self.ended = True
 
 
 def test_heavy_and_light_lines_are_balanced():
-    """By simulated clocks, four processes need little more than a quarter of the time of one, and consecutive heavy lines are shared among
-    them."""
+    """Four processes need little more than a quarter of the time of one, whether heavy lines are neighbours, or each third, fourth or fifth line."""
     for lines in (MIXED, *PATTERNS):
-        for light, heavy in ((0.00005, 0.08), (0.00005, 1.0), (0.0005, 0.08), (0.00001, 0.01)):
-            four = Simulated(lambda line: heavy if line == HEAVY.encode() else light)
-            _batch.time = SimpleNamespace(monotonic=four.monotonic)
-            spread = _batch.Spread(four.submit, _batch.Source(lines), 5, 4)
-            spread._finished = four
-            same([it.text for it in spread.outcomes()], lines)
-            alone = lines.count(LIGHT) * light + lines.count(HEAVY) * heavy
-            assert max(four.free) < 0.36 * alone, (light, heavy, alone, four.free)
-            assert lines is not MIXED or max(map(in_a_row, four.lines)) <= 4, four.lines
+        four = Slept(0.08 if lines is MIXED else 0.02)
+        began = time.monotonic()
+        lanes = _batch.Lanes(_batch.Desk(four, (None,) * 4, None), 4)
+        same([it.text for it in lanes.outcomes(_batch.Source(iter(lines)))], lines)
+        took, alone = time.monotonic() - began, lines.count(LIGHT) * 0.00002 + lines.count(HEAVY) * four.heavy
+        assert four.ended and sum(four.spent) < 1.7 * alone, (sum(four.spent), alone)
+        assert took < (0.5 if CLOCKS else 0.8) * alone, (took, alone)
 
 
-def test_heavy_lines_are_done_at_one_time():
-    """By clocks that are simulated: the last pieces are as short as it takes for four processes to end together."""
-    for count in (32, 64, 100):
-        for heavy in (0.01, 0.02, 0.05, 0.1, 0.3, 1.0):
-            four = Simulated(lambda line: heavy)
-            _batch.time = SimpleNamespace(monotonic=four.monotonic)
-            spread = _batch.Spread(four.submit, _batch.Source([HEAVY] * count), 5, 4)
-            spread._finished = four
-            same(len(list(spread.outcomes())), count)
-            assert max(four.free) < 0.26 * heavy * count, (count, heavy, four.free)
+def test_heavy_lines_come_as_they_are_done():
+    """One line is not kept back for another one."""
+    four = Slept(0.1)
+    began, came = time.monotonic(), []
+    for _ in _batch.Lanes(_batch.Desk(four, (None,) * 4, None), 4).outcomes(_batch.Source([HEAVY] * 12)):
+        came.append(time.monotonic() - began)
+    assert came[3] < 0.25 and came[-1] < 0.5 or not CLOCKS and came[-1] < 1.1, came
+
+
+def test_lines_are_in_order_whatever_is_given_up():
+    """Also if windows end too late at random, and single lines fail."""
+    draw = random.Random(5)
+
+    class Odd(Slept):
+        def blocks(self, lines, seconds):
+            if seconds is not None and draw.random() < 0.3:
+                raise TimeoutError
+            if draw.random() < 0.05:
+                raise MemoryError
+            return [it.decode() for it in lines]
+
+    for count in (2, 3, 7):
+        lines = [f"line{n}" if n % 7 else ("" if n % 2 else "# x") for n in range(5000)]
+        got = list(_batch.Lanes(_batch.Desk(Odd(0), (None,) * 4, None), count).outcomes(_batch.Source(iter(lines))))
+        same(len(got), len(lines))
+        same([it.line if it else None for it in got], [it if it.startswith("line") else None for it in lines])
+        same({it.text == it.line or isinstance(it.refusal, MemoryError) for it in got if it}, {True})
 
 
 def test_four_workers_are_three_times_as_fast():
@@ -236,7 +182,7 @@ def test_a_batch_is_lazy():
         with within(5):
             blocks = CALC.batch(endless(), **how)
             for _ in range(5000):
-                same(next(blocks).answer[2], 1)
+                same(next(blocks).answer[[2]], 1)
             blocks.close()
 
 

@@ -25,16 +25,19 @@ def main() -> None:
         except Refusal as refusal:
             print(refusal.kind, refusal.word, refusal.line)
         for tableau in calc.tab([2, 1], [1]):
-            print(len(tableau), tableau.latex())
+            print(len(tableau), tableau.latex(), tableau.inner)
         pair = calc.rsk([3, 1, 2])
         print(sum(calc.unrsk(pair.insertion, pair.recording)))
         ring = calc.quantum_ring(2, 3)
-        print(ring([1]) * ring([2, 1]) + 1, sum([twice, twice]), +twice, twice + 0)
-        print(twice * twice, calc.schubmult([2, 1], [1]) * calc.schubmult([2, 1], [1]))
-        # (pairs have no product, and text and iterators are not shapes)
-        print(calc.coprod([1]) * calc.coprod([1]))  # type: ignore[operator]
+        print(ring[1] * ring([2, 1]) + 1, ring.q, sum([twice, twice], calc.s.zero()), +twice, twice + 0)
+        print(twice**2, calc.X[2, 1] * calc.schubmult([2, 1], [1]), calc.p(twice), twice.to("h").coefficient([2, 1]))
+        print([sum(label) * c for label, c in twice], Expansion(calc.s, {(2, 1): 1}), calc.submit(calc.coef, [2], [1], [1]).result())
+        # (texts, iterators, sets and dictionaries are no lists, and a place is no time)
         print(calc.mult("21", [1]))  # type: ignore[arg-type]
         print(calc.mult(map(int, ["2"]), [1]))  # type: ignore[arg-type]
+        print(calc.mult({2, 1}, [1]))  # type: ignore[arg-type]
+        print(calc.mult([1], {2: 1}))  # type: ignore[arg-type]
+        print(calc.coef([2], [1], [1], 5))  # type: ignore[misc]
 
 
 if __name__ == "__main__":
