@@ -1,14 +1,7 @@
 // What tests/page tries in the open page, beside whose scripts this runs. Each check gives a value; tests/page compares it.
 (() => {
-  const pause = (ms = 4) => new Promise((next) => setTimeout(next, ms));
   const all = (what, of = document) => [...of.querySelectorAll(what)];
   const textsOf = (what, of) => all(what, of).map((it) => it.textContent);
-
-  /** Whether something is so within four minutes. */
-  const until = async (test) => {
-    for (const end = performance.now() + 240000; performance.now() < end; await pause()) if (test()) return true;
-    return false;
-  };
 
   const run = (text) => {
     at("line").value = text;
@@ -16,13 +9,13 @@
   };
 
   /** The latest answer, after a number of answers more have come. */
-  const more = async (count, action) => {
+  const more = async (count, action, what = `${count} answers`) => {
     const before = numberOfAnswer;
     await action();
-    await until(() => numberOfAnswer >= before + count);
+    await until(() => numberOfAnswer >= before + count, `${what} (${at("state").textContent})`);
     return all("article")[0];
   };
-  const answer = (text) => more(1, () => run(text));
+  const answer = (text) => more(1, () => run(text), `the answer to ${text}`);
 
   /** The answers to many lines, in turn, typed some at once where none has a comment. (Of a longer list drawings are made when they are asked for.) */
   const SOME = 19;
@@ -31,7 +24,7 @@
     for (let begin = 0; begin < lines.length; ) {
       const comment = lines.slice(begin, begin + SOME).findIndex((it) => it.includes("#"));
       const some = lines.slice(begin, begin + (comment < 0 ? SOME : comment || 1));
-      await more(some.length, () => run(some.join("; ")));
+      await more(some.length, () => run(some.join("; ")), `the answers to ${some.join("; ")}`);
       found.push(...all("article").slice(0, some.length).reverse());
       begin += some.length;
     }
@@ -55,7 +48,7 @@
   let path, count;
 
   const checks = {
-    ready: () => until(() => !at("run").disabled),
+    ready: () => until(() => isReady, "the module"),
 
     texts: async (lines) => (await answersTo(lines)).map((it) => it.querySelector("pre").textContent),
 
@@ -90,7 +83,7 @@
     async readings(lines) {
       const read = (it, i) => {
         const isRefused = it.className === "refused";
-        return [lines[i], isRefused ? null : textsOf("h3", it)[0], isRefused ? "" : textsOf(".computed", it).join(""), all("[data-line]", it).map((of) => of.dataset.line)];
+        return [lines[i], isRefused ? null : textsOf("h3", it)[0], isRefused ? "" : textsOf(".computed", it).join(""), all("[data-line]", it).map((of) => of.dataset.line), textsOf(".asked", it).join("").split(" = ")[0]];
       };
       return (await answersTo(lines)).map(read);
     },

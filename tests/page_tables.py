@@ -25,12 +25,15 @@ mult 1 2 - 1""".splitlines() + ["expand m " + "+".join(["1"] * 2048)]
 # The lines that are refused: the line, the sentence, and the part that is marked.
 REFUSALS = [
     ("mult 1 2 - 1", "Part 2 is greater than part 1: 2 after 1. The parts of a partition cannot increase.", "2"),
-    ("multiply 2 1 - 1", "There is no command multiply. Is mult meant?", "multiply"),
+    ("multi 2 1 - 1", "There is no command multi. Is mult meant?", "multi"),
     ("frobnicate", "There is no command frobnicate. All commands are below, under Commands.", "frobnicate"),
-    ("s[2,1]*s[2,1]", "An expression comes after expand and a basis, as in expand s s[2,1]*s[2,1].", "s[2,1]*s[2,1]"),
+    ("s[2,1]*s[2,1", "“s[2,1]*s[2,1” can be read, and something is missing after it: an exponent, a comma or ].", ""),
+    ("s_{2,1} s_{1} ! s_{1}", "“s_{2,1} s_{1}” can be read. “!” cannot come after it; what can is an exponent, a comma, a times sign, a number or + or -.", "!"),
+    ("s_{2,1}#s_{2,1}", "Kronecker products and their coefficients are not computed here.", None),
+    ("G_{132}", "Grothendieck polynomials are not computed here.", None),
     ("mult 2 1", "The command ends too early. Next comes a part (a number) or -.", ""),
     ("mult 2 1 -1", "-1 cannot come here: - and / are words of their own, with a blank on each side.", "-1"),
-    ("plethysm s h[2] *h[3] h[2]+ h[1] h[1]", "An expression is one word: take the blanks out.", "*h[3]"),
+    ("expand s h[2] *h[3", "An expression is one word: take the blanks out.", "*h[3"),
     ("expand s h[2]**p[1]", "h[2]**p[1] is not an expression. At the marked place comes a number, an atom such as h[2,1], or (.", "*"),
     ("expand s h[2,1", "The expression h[2,1 ends too early. Next comes a digit, a comma or ].", ""),
     ("expand s h[1,2]", "2 is greater than 1, the number before it. The parts of a partition cannot increase.", "2"),
@@ -47,23 +50,24 @@ REFUSALS = [
     (f"expand m {2**127 - 1}+1", "The answer is not computed: the bound for the numbers on the way is greater than 2^127 - 1.", None),
 ]
 
-# The text that is typed, the line that is run, and the note of the page about what it left out or changed.
+# The text that is typed, the line that is run, and what the page says that it left out.
 TYPED = [
-    ("$ calc mult 2 1 - 2 1", "mult 2 1 - 2 1", "left out the prompt and left out the name of the program"),
-    ("./calc coef 3 2 1 - 2 1 - 2 1", "coef 3 2 1 - 2 1 - 2 1", "left out the name of the program"),
-    ("expand p 's[2,1]'", "expand p s[2,1]", "left out the quotes"),
-    ("expand p “s[2,1]”", "expand p s[2,1]", "left out the quotes"),
-    ("mult (2,1) - (2, 1)", "mult 2 1 - 2 1", "wrote lists as their numbers with blanks between"),
-    ("skew 3,2,1/2,1", "skew 3 2 1 / 2 1", "wrote lists as their numbers with blanks between"),
-    ("mult () - (1)", "mult - 1", "wrote lists as their numbers with blanks between"),
-    ("mult(2,1)-s[2,1]", "mult 2 1 - 2 1", "wrote lists as their numbers with blanks between"),
-    ("coef (3,2,1) (2,1), (2,1)", "coef 3 2 1 - 2 1 - 2 1", "wrote the separators between the lists and wrote lists as their numbers with blanks between"),
-    ("expand s h[2]·p[1]", "expand s h[2]*p[1]", "wrote times signs as *"),
-    ("mult ∅ - [2 1]", "mult - 2 1", "wrote lists as their numbers with blanks between"),
-    ("mult 2 1 − 2 1", "mult 2 1 - 2 1", "wrote minus signs as -"),
-    ("mult 2 1 – 2 1", "mult 2 1 - 2 1", "wrote minus signs as -"),
-    ("expand p h[1]−e[1]", "expand p h[1]-e[1]", "wrote minus signs as -"),
-    ("mult 1\u00a0- 1", "mult 1 - 1", "wrote unusual blanks as plain ones"),
+    ("$ calc mult 2 1 - 2 1", "mult 2 1 - 2 1", "the prompt and the name of the program"),
+    ("./calc coef 3 2 1 - 2 1 - 2 1", "coef 3 2 1 - 2 1 - 2 1", "the name of the program"),
+    ("expand p 's[2,1]'", "expand p s[2,1]", "the quotes"),
+    ("expand p “s[2,1]”", "expand p s[2,1]", "the quotes"),
+    ("mult (2,1) - (2, 1)", "mult 2 1 - 2 1", ""),
+    ("skew 3,2,1/2,1", "skew 3 2 1 / 2 1", ""),
+    ("mult () - (1)", "mult - 1", ""),
+    ("mult(2,1)*s[2,1]", "mult 2 1 - 2 1", ""),
+    ("coef (3,2,1), (2,1), (2,1)", "coef 3 2 1 - 2 1 - 2 1", ""),
+    ("expand s h[2]·p[1]", "expand s h[2]*p[1]", ""),
+    ("mult ∅ - [2 1]", "mult - 2 1", ""),
+    ("mult 2 1 − 2 1", "mult 2 1 - 2 1", ""),
+    ("mult 2 1 – 2 1", "mult 2 1 - 2 1", ""),
+    ("expand p h[1]−e[1]", "expand p h[1]-e[1]", ""),
+    ("mult 1\u00a0- 1", "mult 1 - 1", ""),
+    ("mult 2 1 - 2 1 # the square", "mult 2 1 - 2 1", "the comment"),
 ]
 
 # The texts that the help of a command contains.

@@ -8,6 +8,8 @@ import os
 import threading
 import urllib.parse
 
+from browse import WAITS
+
 HEAVY = "mult 9 8 7 6 5 4 3 2 1 - 9 8 7 6 5 4 3 2 1 - 9 8 7 6 5 4 3 2 1"
 LARGE = "mult 8 6 5 4 3 2 1 - 6 5 4 3 2 1"
 # A line that needs more than 64 MiB.
@@ -40,12 +42,10 @@ globalThis.boot = () => { isReady = false; worker = new Worker(URL.createObjectU
 end(); boot(); await until(() => isReady)
 """
 
-HELPERS = """
-globalThis.pause = (ms = 4) => new Promise((next) => setTimeout(next, ms));
-globalThis.until = async (test) => { for (const end = performance.now() + 240000; performance.now() < end && !test(); ) await pause(); return test(); };
+HELPERS = WAITS + """
 globalThis.went = (action) => new Promise((next) => { addEventListener("hashchange", next, { once: true }); action(); });
 globalThis.answers = () => [...document.querySelectorAll("article")].map((it) => [it.querySelector("h3").textContent, (it.querySelector("pre") || { textContent: "" }).textContent]);
-globalThis.quiet = () => until(() => !document.getElementById("run").disabled && !running && waiting.length === 0);
+globalThis.quiet = () => until(() => isReady && !running && waiting.length === 0, "the end of the queue");
 """
 
 
@@ -353,9 +353,9 @@ def pictures(*where):
 def offers(*where):
     """A reading that is offered is shown in mathematics, and runs when it is pressed."""
     with Visit(*where) as visit:
-        visit.run("mult (1)' - (1)'")
+        visit.run("s_{11}*s_{1}")
         script = "const it = document.querySelector('article .offers li'), said = it.textContent; it.querySelector('button').click(); await quiet(); return [said, answers()[0], document.getElementById('line').value]"
-        return wrong((visit.ask(script), ["mult 1 - 1 s(1) · s(1)", ["mult 1 - 1", "1  (2)\n1  (1,1)\n"], "mult 1 - 1"]))
+        return wrong((visit.ask(script), ["mult 1 1 - 1 s(1,1) · s(1)", ["mult 1 1 - 1", "1  (2,1)\n1  (1,1,1)\n"], "mult 1 1 - 1"]))
 
 
 def memory(*where):
@@ -410,4 +410,105 @@ def installed(browser, path, size):
         return wrong((visit.answers(), [["coef 2 - 1 - 1", "1\n"]]), (named, None), (manifest["display"], "standalone"))
 
 
-VISITS = [back, reload, heavy_link, powers_link, lines_link, next_links, unseen_link, several_readings_link, draft, fresh_field, transcript, show_more, thousands, cleared, help_asked, offers, forms, tables, pictures, memory, little_memory, installed]
+# What is asked for of an answer: what is typed, the text of what is asked for, from the definitions, and the lines that are marked.
+ASKED = [
+    ("K_{(3,1),(1^4)}", "K(3,1),(1,1,1,1) = 3", ["3  (1,1,1,1)"]),
+    ("K_{(2,2),(3,1)}", "K(2,2),(3,1) = 0", []),
+    ("f^{(3,2,1)}", "f(3,2,1) = 16", ["16  (1,1,1,1,1,1)"]),
+    ("χ^{(3,1)}(2,2)", "χ(3,1)(2,2) = −1", ["-1  (3,1)"]),
+    ("degree of Gr(2,5)", "the degree of Gr(2,5) = 5", ["5  (1,1,1,1,1,1)"]),
+    ("σ_{1}^4 in Gr(2,4)", "σ(1) · σ(1) · σ(1) · σ(1) in H*(Gr(2,4)) = 2 σ(2,2)", ["2  q^0  (2,2)"]),
+    ("number of LR tableaux of shape (3,2,1)/(2,1)", "the number of Littlewood–Richardson tableaux of shape (3,2,1)/(2,1) = 4", []),
+    ("coefficient of s_{2,1} in s_1 s_1 s_1", "the coefficient of s(2,1) in s(1) · s(1) · s(1) = 2", ["2  (2,1)"]),
+]
+
+
+def asked_for(*where):
+    """The line of an answer that was asked for is marked, and the whole answer stays."""
+    with Visit(*where) as visit:
+        for typed, said, marked in ASKED:
+            visit.run(typed)
+            script = "const it = document.querySelector('article'); return [it.querySelector('.asked').textContent, [...it.querySelectorAll('pre .asked-line')].map((of) => of.textContent.trim()), it.querySelector('pre').textContent === kept[kept.length - 1].text]"
+            got = visit.ask(script)
+            if got != [said, marked, True]:
+                return f"{typed}: {got}"
+        return ""
+
+
+def first_reading(*where):
+    """While a line with several readings is typed the page says so; Ctrl and Enter take the first one, Enter offers all, and one that is 0 by its sizes runs when it is pressed."""
+    with Visit(*where) as visit:
+        typing = "const field = document.getElementById('line'); field.value = 'c^{321}_{21,21}'; field.dispatchEvent(new Event('input')); "
+        seen = visit.ask(typing + "return document.getElementById('preview').textContent.split(':')[0]")
+        visit.ask(typing + "field.dispatchEvent(new KeyboardEvent('keydown', { key: 'Enter', ctrlKey: true, cancelable: true })); await quiet()")
+        first = visit.answers()[0]
+        visit.run("K_{2,11}")
+        offers = visit.ask("const all = [...document.querySelectorAll('article')[0].querySelectorAll('.offers li')]; all[all.length - 1].querySelector('button').click(); await quiet(); return all.map((it) => it.textContent.includes('0 by its sizes'))")
+        zero = visit.ask("return document.querySelector('article .asked').textContent")
+        return wrong((seen, "2 readings"), (first, ["coef 3 2 1 - 2 1 - 2 1", "2\n"]), (offers, [False, True]), (zero, "K(2),(11,) = 0"))
+
+
+def names_given(*where):
+    """No part of a line runs if one that is not read gives something a name; and what a question to begin with says is not said of what was typed."""
+    with Visit(*where) as visit:
+        visit.run("S = schurRing(s,3); s_{2,1}*s_{2,1}")
+        none = visit.answers()
+        visit.run("nothing; coef 2 - 1 - 1; K_{(3,1),(2,1,1)}")
+        said = visit.ask("return document.querySelectorAll('article .meaning').length")
+        return wrong((none, [["S = schurRing(s,3); s_{2,1}*s_{2,1}", ""]]), ([line for line, _ in visit.answers()[:2]], ["expand m s[3,1]", "coef 2 - 1 - 1"]), (said, 0))
+
+
+def early_enter(*where):
+    """A line that is run before the module is ready is answered once it is."""
+    with Visit(*where) as visit:
+        got = visit.ask("end(); boot(); const is = isReady; at('line').value = 'coef 2 - 1 - 1'; at('run').click(); await quiet(); return [is, answers()[0]]")
+        return wrong((got, [False, ["coef 2 - 1 - 1", "1\n"]]))
+
+
+def late_failure(*where):
+    """A worker that fails after its start is started anew, and what ran in it has no answer."""
+    with Visit(*where) as visit:
+        visit.ask(f"ask({json.dumps(HEAVY)}); await until(() => running); worker.onerror({{ message: 'it broke' }}); await quiet()")
+        said = visit.ask("return document.querySelector('article .said').textContent")
+        visit.run("coef 2 - 1 - 1")
+        return wrong((said, "The module failed, and there is no answer. It was started anew. (it broke)"), (visit.answers()[0], ["coef 2 - 1 - 1", "1\n"]))
+
+
+def forgotten(*where):
+    """Commands that were forgotten do not come back with a reload."""
+    with Visit(*where) as visit:
+        visit.run("coef 1 - 1 -")
+        visit.ask("document.getElementById('forget').click()")
+        reloaded(visit)
+        return wrong((visit.ask("return [asked, document.getElementById('history').hidden, answers().length]"), [[], True, 0]))
+
+
+def other_tab(*where):
+    """What another tab keeps stays, and what it forgets is forgotten here."""
+    with Visit(*where) as visit:
+        keeps = "localStorage.setItem('calc: lines', JSON.stringify(%s)); dispatchEvent(new StorageEvent('storage', { key: 'calc: lines' }))"
+        visit.run("rsk 1")
+        visit.ask(keeps % "['rsk 1', 'rsk 9']")
+        visit.run("rsk 2")
+        both = visit.ask("return JSON.parse(localStorage.getItem('calc: lines'))")
+        return wrong((both, ["rsk 1", "rsk 9", "rsk 2"]), (visit.ask(keeps % "[]" + "; return asked"), []))
+
+
+def half_typed(*where):
+    """A half-typed line that an example takes the place of can be brought back."""
+    with Visit(*where) as visit:
+        script = """const field = at("line"), button = at("undo"); field.value = "mult 5 4 -"; const before = button.hidden;
+        document.querySelector("#questions [data-line]").click(); await quiet(); const seen = !button.hidden && field.value !== "mult 5 4 -";
+        button.click(); return [before, seen, field.value, button.hidden]"""
+        return wrong((visit.ask(script), [True, True, "mult 5 4 -", True]))
+
+
+def long_line(*where):
+    """A line that is too long is not looked at, whatever it is made of."""
+    with Visit(*where) as visit:
+        script = "const began = performance.now(); at('line').value = %s.repeat(300000); at('line').dispatchEvent(new Event('input')); at('run').click(); await quiet(); return [performance.now() - began < 20000, document.querySelector('article .said').textContent]"
+        got = [visit.ask(script % json.dumps(sign)) for sign in ("\\", "s_1 ", "\u202e")]
+        return wrong((got, [[True, "The line has more than 65,536 characters, the most that are read here."]] * 3))
+
+
+VISITS = [asked_for, first_reading, names_given, early_enter, late_failure, forgotten, other_tab, half_typed, long_line, back, reload, heavy_link, powers_link, lines_link, next_links, unseen_link, several_readings_link, draft, fresh_field, transcript, show_more, thousands, cleared, help_asked, offers, forms, tables, pictures, memory, little_memory, installed]

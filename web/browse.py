@@ -15,22 +15,37 @@ import subprocess
 import tempfile
 import threading
 
+# How long the browser may take for one message, and how often it is started if it ends before it listens.
 SECONDS = 600
+STARTS = 3
+
+# How long a page may take for one thing that is waited for, by its own clock; and the loop that waits for it and names what did not come.
+WAITS = """
+globalThis.LONGEST_WAIT = 60000;
+globalThis.pause = (ms = 4) => new Promise((next) => setTimeout(next, ms));
+globalThis.until = async (test, what = String(test)) => {
+  for (const end = performance.now() + LONGEST_WAIT; performance.now() < end; await pause()) if (test()) return true;
+  throw new Error(`${what.slice(0, 200)} did not come within ${LONGEST_WAIT / 1000} s`);
+};
+"""
 
 # Waits for the module, types each line, waits for its answer, and gives the texts.
 TYPES = """(async () => {
-  const pause = () => new Promise((next) => setTimeout(next, 4));
-  while (document.getElementById("run").disabled) await pause();
+  await until(() => isReady, "the module");
   const texts = [];
   for (const line of %s) {
-    const count = document.querySelectorAll("article").length;
+    const count = numberOfAnswer;
     document.getElementById("line").value = line;
     document.getElementById("run").click();
-    while (document.querySelectorAll("article").length === count) await pause();
-    texts.push(document.querySelector("article pre").textContent);
+    await until(() => numberOfAnswer > count, `the answer to ${line}`);
+    texts.push(document.querySelector("article").querySelector("pre, .unclear, .said").textContent);
   }
   return JSON.stringify(texts);
 })()"""
+
+
+class Amiss(Exception):
+    """What a page did not do, in words."""
 
 # The keys with a name, by the code that Chromium is given and the character that stands for them in WebDriver.
 KEYS = {"Enter": (13, "\ue007"), "Tab": (9, "\ue004"), "Escape": (27, "\ue00c"), "ArrowUp": (38, "\ue013"), "ArrowDown": (40, "\ue015")}
@@ -38,7 +53,7 @@ KEYS = {"Enter": (13, "\ue007"), "Tab": (9, "\ue004"), "Escape": (27, "\ue00c"),
 # What Chromium is told: a page that is not in front has the processor as one that is. A page of which no picture is taken is laid out and not
 # drawn, which takes most of the time on a machine without a graphics processor.
 FOR_CHROMIUM = """--no-sandbox --disable-gpu --hide-scrollbars --disable-renderer-backgrounding --disable-backgrounding-occluded-windows
---disable-background-timer-throttling --no-first-run --disable-component-update --disable-background-networking""".split()
+--disable-background-timer-throttling --disable-dev-shm-usage --no-first-run --disable-component-update --disable-background-networking""".split()
 NOT_DRAWN = "--in-process-gpu --disable-threaded-compositing".split()
 
 # What Firefox is told in its profile; Chromium is told the same over its protocol.
@@ -89,7 +104,10 @@ class Channel:
     def message(self):
         text, is_last = b"", False
         while not is_last:
-            first, second = self.file.read(2)
+            head = self.file.read(2)
+            if len(head) < 2:
+                raise EOFError("the browser has closed the connection")
+            first, second = head
             size = second & 127
             if size > 125:
                 size = struct.unpack("!H" if size == 126 else "!Q", self.file.read(2 if size == 126 else 8))[0]
@@ -97,6 +115,10 @@ class Channel:
             if first & 15 < 3:
                 text, is_last = text + piece, bool(first & 128)
         return text
+
+
+class HasEnded(SystemExit):
+    """A browser has ended before it named the address at which it listens."""
 
 
 class Browser:
@@ -109,9 +131,23 @@ class Browser:
 
     def __init__(self, name, dark=False, still=False, pictures=True):
         self.name, self.dark, self.still, self.pictures = name, dark, still, pictures
-        self.profile = tempfile.mkdtemp()
 
     def __enter__(self):
+        """Starts the browser, with a profile of its own; again, if it ends before it listens."""
+        said = ""
+        for _ in range(STARTS):
+            self.profile, self.said = tempfile.mkdtemp(), []
+            try:
+                self.start()
+                return self
+            except BaseException as error:
+                self.__exit__()
+                if not isinstance(error, (EOFError, OSError)):
+                    raise
+                said = f"{error}: {''.join(self.said[-5:])[-600:]}"
+        raise HasEnded(f"{self.name} was started {STARTS} times and has ended: {said}")
+
+    def start(self):
         if self.name == "chromium":
             words, mark = [*FOR_CHROMIUM, *([] if self.pictures else NOT_DRAWN), f"--user-data-dir={self.profile}"], "DevTools listening on "
         else:
@@ -120,16 +156,11 @@ class Browser:
                 file.write(PREFERENCES.format(scheme=0 if self.dark else 1, still=int(self.still)))
         words = [self.name, "--headless", "--remote-debugging-port=0", *words, "about:blank"]
         self.started = subprocess.Popen(words, stdout=subprocess.DEVNULL, stderr=subprocess.PIPE, text=True)
-        try:
-            self.address = self.listening(mark)
-            self.channel = Channel(self.address if self.name == "chromium" else f"{self.address}/session")
-            if self.name == "firefox":
-                self.channel.ask("session.new", capabilities={})
-                self.channel.ask("session.subscribe", events=["network.beforeRequestSent"])
-        except BaseException:
-            self.__exit__()
-            raise
-        return self
+        self.address = self.listening(mark)
+        self.channel = Channel(self.address if self.name == "chromium" else f"{self.address}/session")
+        if self.name == "firefox":
+            self.channel.ask("session.new", capabilities={})
+            self.channel.ask("session.subscribe", events=["network.beforeRequestSent"])
 
     def __exit__(self, *_):
         self.started.kill()
@@ -142,7 +173,8 @@ class Browser:
             if mark in line:
                 threading.Thread(target=self.started.stderr.read, daemon=True).start()
                 return line.split(mark)[1].strip()
-        raise SystemExit(f"{self.name} has ended")
+            self.said.append(line)
+        raise EOFError(f"it has ended with status {self.started.wait()}")
 
     def page(self, path, width=1280, height=900, fragment=""):
         """A page of this file or address, at a size."""
@@ -167,11 +199,12 @@ class Page:
         """The value of an expression in the page: a text, a number, a truth value, or what a promise of one comes to."""
         done = self.evaluated(script)
         if "exceptionDetails" in done:
-            raise SystemExit(f"{self.browser.name}: {json.dumps(done['exceptionDetails'])[:600]}")
+            raise Amiss(f"{self.browser.name}: {json.dumps(done['exceptionDetails'])[:600]}")
         return done["result"].get("value")
 
     def type(self, lines):
         """The texts of these lines, typed one after another."""
+        self.run(WAITS)
         return json.loads(self.run(TYPES % json.dumps(lines)))
 
     def save(self, data, path):

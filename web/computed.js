@@ -1,9 +1,14 @@
 // What a line computes, in mathematics: drawn from its words, in a notation with `_{..}` and `^{..}` for what is set low and high.
 
+/** Numbers with commas, in parentheses; one number of several digits with a comma, since without it its digits could be numbers. */
+function inRound(numbers, joint = ",") {
+  return `(${numbers.join(joint)}${numbers.length === 1 && numbers[0].length > 1 ? "," : ""})`;
+}
+
 /** A partition: its parts with commas, in parentheses, or ∅. */
 function shown(words) {
   const parts = partition(words);
-  return parts.length > 0 ? `(${parts.join(",")})` : "∅";
+  return parts.length > 0 ? inRound(parts) : "∅";
 }
 
 /** A permutation as an index: its letters, with commas where one is over 9. */
@@ -24,7 +29,7 @@ function countOfThings(number, one, several) {
 function shownExpression(text) {
   const atoms = text.replace(/([mehps])\[([\d,]*)\]/g, (_, basis, list) => {
     const numbers = partition(list.split(",").filter(Boolean));
-    return `${basis}_{${numbers.length === 0 ? "∅" : numbers.length === 1 && numbers[0].length === 1 ? numbers[0] : `(${numbers.join(",")})`}}`;
+    return `${basis}_{${numbers.length === 0 ? "∅" : numbers.length === 1 && numbers[0].length === 1 ? numbers[0] : inRound(numbers)}}`;
   });
   return atoms.replace(/\*/g, " · ").replace(/([^(^{])([+-])/g, (_, before, sign) => `${before} ${sign === "-" ? "−" : "+"} `).replace(/^-/, "−");
 }
@@ -34,6 +39,7 @@ function namesOfCoefficients(basis, text) {
   const [, family, list] = /^([mehps])\[([\d,]*)\]$/.exec(text) || [];
   if (!family || list === "") return "";
   const index = shown(list.split(","));
+  if (index === "∅") return "";
   if (family === "s" && basis === "m") return `: the Kostka numbers K_{${index},μ}`;
   if (family === "h" && basis === "s") return `: the Kostka numbers K_{λ,${index}}`;
   if (family === "e" && basis === "s") return `: the Kostka numbers K_{λ′,${index}}`;
@@ -42,7 +48,7 @@ function namesOfCoefficients(basis, text) {
 
 /** A word, its letters with commas. */
 function shownWord(words) {
-  return words.length === 0 ? "the empty word" : `the word (${words.map(plainNumber).join(", ")})`;
+  return words.length === 0 ? "the empty word" : `the word ${inRound(words.map(plainNumber), ", ")}`;
 }
 
 /** A tableau by its rows. */
@@ -68,12 +74,12 @@ const COMPUTED = {
     return `${of("partition").map(schur).join(" ⊗ ")} for su(${rows}) at level ${level}`;
   },
   schubert: (of) => `the Schubert polynomial ${schubert(of("permutation")[0])}`,
-  schubmult: (of) => of("permutation").map(schubert).join(" · "),
+  schubmult: (of) => `the product of the Schubert polynomials ${of("permutation").map(schubert).join(" and ")}`,
   dschubmult: (of) => of("permutation").map((it) => `${schubert(it)}(x; y)`).join(" · "),
   stanley: (of) => `the Stanley symmetric function F_{${permutationIndex(of("permutation")[0])}}${inVariables(of)}`,
   expand: (of) => {
     const [[basis], [text]] = [of("basis")[0], of("expression")[0]];
-    return `${shownExpression(text)} in the basis ${basis}${namesOfCoefficients(basis, text)}`;
+    return `${shownExpression(text)} in the basis ${basis}`;
   },
   plethysm: (of) => {
     const [[basis], [outer], [inner]] = ["basis", "outer", "inner"].map((role) => of(role)[0]);
@@ -90,7 +96,21 @@ const COMPUTED = {
   rect: (of) => `the rectification of ${shownTableau(of("filling")[0])} of shape ${of("partition").map(shown).join("/")}`,
   growth: (of) => `the growth diagram of the permutation ${of("permutation")[0].map(plainNumber).join(" ")}`,
   batch: () => "the answers to the lines of the input, of which there are none here",
-  work: (of) => `totals of ${countOfThings(of("lines")[0][0], "generated command", "generated commands")}`,
+  work: (of) => {
+    const [[[lines]], [[seed]]] = [of("lines"), of("seed")];
+    return `totals of ${plainNumber(lines)} generated command${Number(lines) === 1 ? "" : "s"}, from the seed ${plainNumber(seed)}`;
+  },
+};
+
+/** What is asked for of an answer, from the arguments of its command. */
+const ASKED = {
+  K: ({ of, at }) => `K_{${shown(of)},${shown(at)}}`,
+  f: ({ of }) => `f^{${shown(of)}}`,
+  χ: ({ of, at }) => `χ^{${shown(of)}}_{${shown(at)}}`,
+  degree: ({ of }) => `the degree of Gr(${of.length},${of.length + Number(of[0])})`,
+  c: ({ at }, words) => `the coefficient of ${schur(at)} in ${words("partition").map(schur).join(" · ")}`,
+  count: (_, words) => `the number of ${COMPUTED.tab(words).replace(/^the /, "")}`,
+  H: (_, words) => COMPUTED.quantum(words).replace(/ \* /g, " · ").replace("in QH*", "in H*"),
 };
 
 function inVariables(of) {
@@ -98,12 +118,24 @@ function inVariables(of) {
   return given ? ` in ${countOfThings(given[0], "variable", "variables")}` : "";
 }
 
-/** What a line computes, in mathematics; nothing, if it is no command. */
-function computedBy(line) {
+/** What a line computes, or what is asked for of its answer, in mathematics; nothing, if it is no command. (Read as a line it is that command.) */
+function computedBy(line, asked) {
   const words = textsOfWords(line), parts = partsOf(words);
   if (!parts || !Object.hasOwn(COMPUTED, words[0])) return "";
-  return COMPUTED[words[0]]((role) => parts.filter((it) => it.role === role).map((it) => it.words));
+  const of = (role) => parts.filter((it) => it.role === role).map((it) => it.words);
+  return asked ? ASKED[asked.kind](asked, of) : COMPUTED[words[0]](of) + (parts.some((it) => it.sign === "-m") ? ", on one line" : "");
 }
+
+/** What the coefficients of the answer to a line are called, where they have a name. */
+function namedCoefficients(line) {
+  const parts = line.startsWith("expand") ? partsOf(textsOfWords(line)) : null, wordOf = (role) => parts.find((it) => it.role === role).words[0];
+  return parts ? namesOfCoefficients(wordOf("basis"), wordOf("expression")) : "";
+}
+
+/** A reading as it is typed: its line, or the formula of what is asked for. */
+const typedOf = ({ line, asked }) => (asked ? plainTyped(computedBy(line, asked)) : line);
+/** A formula as it can be typed. */
+const plainTyped = (text) => text.replace(/ · /g, "*");
 
 /** A text with `_{..}` and `^{..}` as parts: texts, and lists of a tag and its parts. */
 function formulaParts(text) {

@@ -42,14 +42,7 @@ function fieldOf(slot, isOptional) {
 /** The words of what a field has: of a list its numbers, if it has one reading. */
 function wordsOfField(input) {
   const { role } = input.dataset, text = input.value.trim();
-  if (!PLAIN_LISTS.includes(role)) return text;
-  const tokens = tokensOf(text), isNumbers = tokens.every((it) => it.kind === "number" && it.gap);
-  if (isNumbers) return text;
-  try {
-    return tokens.length === 1 && tokens[0].kind === "list" ? listWords(tokens, role).join(" ") : text;
-  } catch {
-    return text;
-  }
+  return PLAIN_LISTS.includes(role) && !/^[\d ]*$/.test(text) ? listRead(text, role === "partition" ? "Arg" : "WPerm") : text;
 }
 
 /** The parts of the form of a command, each with how it adds its words to the line. */
@@ -89,11 +82,11 @@ function formOfCommand(name) {
   const parts = partsOfForm(GRAMMAR.get(name).words), line = () => [name, ...parts.map((it) => it.words())].filter(Boolean).join(" ");
   const shown_ = element("p", { class: "note" });
   const form = element("form", { class: "fields", "aria-label": `Form of ${name}` }, ...parts.flatMap((it) => it.nodes), element("button", {}, "Run"), shown_);
-  const show = () => shown_.replaceChildren(element("code", {}, line()), " ", element("span", { class: "math" }, ...formula(computedBy(readTyped(line()).line))));
+  const show = () => shown_.replaceChildren(element("code", {}, line()), " ", element("span", { class: "math" }, ...formula(computedBy(readTyped(line()).line || ""))));
   form.oninput = show;
   form.onsubmit = (event) => {
     event.preventDefault();
-    put(line());
+    replaceField(line());
     ask(line());
     toTop();
   };

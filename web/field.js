@@ -3,6 +3,8 @@
 /** The most lines that are kept over reloads, the most that one reload runs again, and for how long a command may have run for that. */
 const MOST_HISTORY = 500;
 const MOST_AGAIN = 30;
+/** The most readings of a line that are shown while it is typed. */
+const MOST_PREVIEWED = 4;
 const SHORT = 2000;
 /** How much a link runs by itself: commands, the sum of their numbers, and milliseconds. */
 const LIGHT = { commands: 6, sum: 60, time: 3000 };
@@ -28,16 +30,35 @@ function keep(store, name, list) {
 /** What was typed, the latest last; where the arrow keys are in it; what was typed there and did not run, by its place. */
 const asked = keptList("localStorage", "calc: lines");
 let placeInAsked = asked.length, drafts = new Map();
-/** What this tab has run, to run it again after a reload. */
-let session = [];
+/** What this tab has run, to run it again after a reload; and what was half typed when an example took its place. */
+let session = [], erased = "";
 
+/** Keeps further lines. What another tab has kept meanwhile stays. */
 function remember(texts) {
-  for (const text of texts) if (asked[asked.length - 1] !== text) asked.push(text);
+  takeKept();
+  for (const text of texts) if (asked[asked.length - 1] !== text && text.length <= LONGEST_LINE) asked.push(text);
   asked.splice(0, asked.length - MOST_HISTORY);
   placeInAsked = asked.length;
   drafts = new Map();
   keep("localStorage", "calc: lines", asked);
   showEarlier();
+}
+
+/** Takes the lines as the browser keeps them, if it keeps some, or another tab has forgotten them. */
+function takeKept() {
+  const kept_ = keptList("localStorage", "calc: lines"), isAtEnd = placeInAsked === asked.length;
+  if (canKeep()) asked.splice(0, asked.length, ...kept_);
+  placeInAsked = isAtEnd ? asked.length : Math.min(placeInAsked, asked.length);
+  showEarlier();
+}
+
+/** Whether the browser keeps lines. */
+function canKeep() {
+  try {
+    return window.localStorage.getItem("calc: lines") !== null || asked.length === 0;
+  } catch {
+    return false;
+  }
 }
 
 /** The earlier lines, the latest first, each a button. */
@@ -50,6 +71,9 @@ function showEarlier() {
 
 function forget() {
   asked.length = 0;
+  keep("localStorage", "calc: lines", []);
+  keepSession([]);
+  putInAddress("");
   remember([]);
   say("The earlier commands were forgotten.");
 }
@@ -66,23 +90,65 @@ function keepSession(lines) {
   keep("sessionStorage", "calc: session", session);
 }
 
-/** Runs the commands of a text as they were typed, after those that wait. */
-function ask(text, most) {
-  return askLines(linesOf(text), most);
+/** Runs the commands of a text as they were typed, or as one of the questions to begin with has them, after those that wait. */
+function ask(text, most, isQuestion = false) {
+  return askLines(linesOf(text), most, true, isQuestion);
 }
 
-/** Runs lines as they were typed, each for so many milliseconds at most. */
-function askLines(lines, most) {
-  const jobs = lines.map((typed) => ({ typed, most, done, ...readTyped(typed) })).filter((job) => job.line);
+/** How many parentheses that are closed again are open at each place of a line. */
+function depthsOf(line) {
+  const open = [], depths = new Int32Array(line.length + 1);
+  for (let at = 0; at < line.length; at += 1) {
+    if (line[at] === "(") open.push(at);
+    else if (line[at] === ")" && open.length > 0) (depths[open.pop()] += 1), (depths[at] -= 1);
+  }
+  for (let at = 1; at <= line.length; at += 1) depths[at] += depths[at - 1];
+  return depths;
+}
+
+/** A line without its comment, to be put beside others. */
+const withoutComment = (line) => line.replace(/(^|[ \t])#.*$/, "$1").trim();
+
+/** Whether a part that is not read gives something a name, as `s = SymmetricFunctions(QQ).s()`: the parts after it may mean what it says. */
+const givesName = (part) => /^[^=]*:?=/.test(part) && readTyped(part).unread !== undefined;
+
+/** The parts of a line between the `;` that are in no parentheses; a comment stays with the last one. */
+function partsOfLine(line) {
+  const comment = line.search(/(?:^|[ \t])#/), end = comment < 0 ? line.length : comment, depths = depthsOf(line), parts = [""];
+  for (let at = 0; at < end; at += 1) {
+    if (line[at] === ";" && depths[at] === 0 && line[at - 1] !== "\\") parts.push("");
+    else parts[parts.length - 1] += line[at];
+  }
+  const said = parts.map((it) => it.trim()).filter(Boolean);
+  if (said.length > 0) said[said.length - 1] += line.slice(end).trimEnd();
+  return said.length > 1 && said.some(givesName) ? [line.trim()] : said;
+}
+
+/**
+ * The lines of a text: commands with `;` or line ends between them. In a transcript the lines with a prompt and those
+ * that begin with the name of a command are commands.
+ */
+function linesOf(text) {
+  const lines = text.split(LINE_ENDS), isPrompted = (it) => /^\s*\$ /.test(it);
+  const isAsked = (it) => isPrompted(it) || GRAMMAR.has(/^\s*([a-z]*)/.exec(it)[1]);
+  return (lines.some(isPrompted) ? lines.filter(isAsked) : lines).flatMap((it) => (it.length > LONGEST_LINE ? [it] : partsOfLine(it)));
+}
+
+/** Runs lines as they were typed, each for so many milliseconds at most; they are kept, if they are new. */
+function askLines(lines, most, isNew = true, isQuestion = false) {
+  const jobs = lines.map((typed) => ({ typed, most, done, isQuestion, ...readTyped(typed) })).filter((job) => job.line);
   const helps = jobs.filter((job) => job.help !== undefined), commands = jobs.filter((job) => job.help === undefined);
   if (helps.length > 0) openHelp(helps[helps.length - 1].help);
   else if (commands.length === 0) return say("Nothing to run: type a command, such as mult 2 1 - 2 1.");
-  if (commands.length === 0) return remember(lines);
-  remember(lines);
-  keepSession([...session, ...commands.map((job) => job.typed)]);
-  putInAddress(commands.map((job) => job.line).join("; "));
+  if (isNew) remember(lines);
+  if (commands.length === 0) return undefined;
+  keepSession([...session, ...commands.map((job) => job.typed).filter((it) => it.length <= LONGEST_LINE)]);
+  putInAddress(commands.map(addressOf).join("; "));
   return enqueue(commands);
 }
+
+/** A job as a link has it: its line, or what was typed, where that asks for more than the line says. */
+const addressOf = ({ typed, line, asked: more }) => (more ? typed : line);
 
 function putInAddress(lines) {
   try {
@@ -106,16 +172,48 @@ function toField() {
   if (!matchMedia("(pointer: coarse)").matches) at("line").focus({ preventScroll: true });
 }
 
-/** What the line in the field would compute, in mathematics, if it has one reading. */
+/** What a line would compute, in mathematics; of several readings all. */
+function previewOf({ line, asked: more, unread: not }) {
+  if (!not) return formula(computedBy(line || "", more));
+  const { offers } = not, shown_ = offers.slice(0, MOST_PREVIEWED).map((it) => formula(computedBy(it.line, it.asked)));
+  if (offers.length === 0) return [];
+  const left = offers.length - shown_.length, more_ = left > 0 ? [` or ${left} more`] : [];
+  const count = element("span", { class: "readings" }, countOfThings(offers.length, "possible reading", "readings"), ": ");
+  return [count, ...shown_.flatMap((it, i) => [...(i > 0 ? [" or "] : []), ...it]), ...more_, element("span", { class: "readings" }, matchMedia("(pointer: coarse)").matches ? ". Run shows them." : ". Enter shows them; Ctrl+Enter takes the first.")];
+}
+
+/** What the lines in the field would compute. */
 function preview() {
-  const lines = linesOf(at("line").value).slice(0, 5);
-  const parts = lines.map((it) => computedBy(readTyped(it).line || "")).filter(Boolean);
-  at("preview").replaceChildren(...parts.flatMap((it, i) => [...(i > 0 ? ["; "] : []), ...formula(it)]));
+  const parts = linesOf(at("line").value).slice(0, 5).map((it) => previewOf(readTyped(it))).filter((it) => it.length > 0);
+  at("preview").replaceChildren(...parts.flatMap((it, i) => [...(i > 0 ? ["; "] : []), ...it]));
+}
+
+/** Runs the first reading of the line in the field, where several are offered; what is in the field, where none is. */
+function takeFirst() {
+  const [first] = linesOf(at("line").value), { unread: not } = readTyped(first || "");
+  if (not && not.offers.length > 0) replaceField(typedOf(not.offers[0]));
+  ask(at("line").value);
 }
 
 function put(text) {
   at("line").value = text;
   preview();
+}
+
+/** Puts a text into the field in place of what is there; what was half typed can be brought back. */
+function replaceField(text) {
+  const before = at("line").value, isRun = before.trim() === "" || before === text || asked.includes(before) || linesOf(before).every((it) => asked.includes(it));
+  put(text);
+  if (!isRun) erased = before;
+  at("undo").hidden = !erased;
+}
+
+/** Brings back what was half typed when something else came into the field. */
+function undo() {
+  put(erased);
+  erased = "";
+  at("undo").hidden = true;
+  toField();
 }
 
 /** Brings an earlier or later line into the field; what was typed there stays a draft. */
@@ -133,7 +231,7 @@ function paste(event) {
   const pasted = event.clipboardData.getData("text");
   if (!LINE_ENDS.test(pasted.trim())) return;
   event.preventDefault();
-  const field = at("line"), lines = linesOf(pasted), left = pasted.split(LINE_ENDS).filter((it) => it.trim()).length - lines.length;
+  const field = at("line"), lines = linesOf(pasted).map(withoutComment), left = pasted.split(LINE_ENDS).filter((it) => it.trim()).length - lines.length;
   field.setRangeText(lines.join("; "), field.selectionStart, field.selectionEnd, "end");
   preview();
   const others = left > 0 ? ` ${countOfThings(left, "line that is", "lines that are")} no command ${left === 1 ? "was" : "were"} left out.` : "";
@@ -171,11 +269,11 @@ function follow() {
   const inQueue = [running, ...ahead, ...waiting].map((job) => job && job.line);
   const left = read.filter(({ line }) => !articleOf(line) && !inQueue.includes(line));
   if (left.length === 0) return showAnswer(articleOf(read[0].line));
-  put(left.map((it) => inSight(it.typed)).join("; "));
-  const isClear = left.every((it) => it.reason === undefined);
+  put(left.map((it) => withoutComment(inSight(it.typed))).join("; "));
+  const isClear = left.every((it) => !it.unread || (it.unread.offers.length === 0 && !isMisseen(it.typed)));
   if (isClear && isLight(left.map((it) => it.line))) {
     askLines(left.map((it) => it.typed), LIGHT.time);
-    return putInAddress(read.map((it) => it.line).join("; "));
+    return putInAddress(read.map(addressOf).join("; "));
   }
   const [what, them] = left.length === 1 ? ["a command", "it"] : [`${left.length} commands`, "them"];
   say(`This link has ${what} that can ${isClear ? "take long" : "be read in several ways"}. Press Enter to run ${them}.`);
@@ -192,7 +290,7 @@ function showAnswer(article) {
 /** What a page that is opened runs: after a reload what it ran before; else the commands of its address. */
 function begin() {
   const [how] = performance.getEntriesByType("navigation"), before = keptList("sessionStorage", "calc: session");
-  if (how && ["reload", "back_forward"].includes(how.type) && before.length > 0) return askLines(before, SHORT * 2);
+  if (how && ["reload", "back_forward"].includes(how.type) && before.length > 0) return askLines(before, SHORT * 2, false);
   keep("sessionStorage", "calc: session", []);
   return follow();
 }

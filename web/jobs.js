@@ -24,7 +24,7 @@ const waiting = [];
 const ahead = [];
 /** The module, once for all workers. */
 let compiled;
-let worker, isReady = false, running = null, clock, later;
+let worker, isReady = false, hasStarted = false, running = null, clock, later;
 /** What the queue came to since it was empty: how many commands were answered, refused and stopped, and what a single one is said to have come to. */
 let round = { asked: 0, answered: 0, refused: 0, stopped: 0, last: [] };
 
@@ -34,10 +34,10 @@ function boot() {
   if (!running && waiting.length === 0 && round.asked === 0 && numberOfAnswer === 0) say(COMPILED);
   try {
     const started = (worker = new Worker(URL.createObjectURL(new Blob([WORKER], { type: "text/javascript" }))));
-    worker.onerror = (error) => fail(error.message || "its worker does not start");
+    worker.onerror = (error) => broken(error.message || "its worker does not start");
     worker.onmessage = ({ data }) => received(data);
     compiled = compiled || compile();
-    compiled.then((module) => started.postMessage({ module }), (error) => fail(error.message));
+    compiled.then((module) => started.postMessage({ module }), (error) => broken(error.message));
   } catch (error) {
     fail(error.message);
   }
@@ -52,8 +52,19 @@ async function compile() {
 
 /** Ends the worker. (An answer on its way from it is no answer to a later command.) */
 function end() {
-  worker.onmessage = null;
+  worker.onmessage = worker.onerror = null;
   worker.terminate();
+}
+
+/** Begins anew where a worker fails that had started; what ran in it has no answer. A worker that never starts ends the page. */
+function broken(message) {
+  if (!hasStarted) return fail(message);
+  const job = running;
+  hasStarted = false;
+  running = null;
+  restart();
+  if (job) clearTimeout(job.timer), finish(job, { status: -1, text: "", error: message, time: performance.now() - job.began });
+  update();
 }
 
 /** Says that nothing can be computed. */
@@ -68,10 +79,9 @@ function fail(message) {
 }
 
 function received(data) {
-  if (data.failed !== undefined) return fail(data.failed);
+  if (data.failed !== undefined) return broken(data.failed);
   if (data.ready) {
-    isReady = true;
-    at("run").disabled = false;
+    isReady = hasStarted = true;
     if (at("state").textContent === COMPILED) say("Ready.");
     return next();
   }
@@ -99,11 +109,23 @@ function finish(job, answer) {
   round.last = job.done(job, answer);
 }
 
+/** Whether what waits first can have its turn: a line that does not run needs no worker, and any other one a worker that is ready. */
+function mayBegin() {
+  const [job] = waiting;
+  if (!job) return false;
+  if (job.unread && job.unread.said) return !running;
+  return isReady && (!running || (waiting.length > LONG_QUEUE && ahead.length < AHEAD));
+}
+
 /** Gives the worker what waits: one command, or of a long queue some at once, so that it need not wait for this page. */
 function next() {
-  while (isReady && waiting.length > 0 && (!running || (waiting.length > LONG_QUEUE && ahead.length < AHEAD))) {
+  while (mayBegin()) {
     const job = waiting.shift();
     job.began = performance.now();
+    if (job.unread && job.unread.said) {
+      finish(job, { status: 2, text: "", time: 0 });
+      continue;
+    }
     if (running) ahead.push(job);
     else running = job;
     worker.postMessage({ line: job.line, input: job.input || "" });

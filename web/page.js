@@ -18,11 +18,15 @@ document.addEventListener("keydown", (event) => {
 
 at("line").oninput = preview;
 at("line").onpaste = paste;
+at("undo").onclick = undo;
+// (what another tab keeps or forgets)
+window.addEventListener("storage", ({ key }) => key === "calc: lines" && takeKept());
 at("line").onkeydown = (event) => {
+  if (event.key === "Enter" && (event.ctrlKey || event.metaKey)) return event.preventDefault(), takeFirst();
   const by = { ArrowUp: -1, ArrowDown: 1 }[event.key];
-  if (!by) return;
+  if (!by) return undefined;
   event.preventDefault();
-  step(by);
+  return step(by);
 };
 
 /** Shows the top of the page, where the answers come. */
@@ -34,14 +38,15 @@ function toTop() {
 
 document.addEventListener("click", ({ target }) => {
   const { line, typed } = (target.closest && target.closest("[data-line], [data-typed]"))?.dataset ?? {};
-  if (typed !== undefined) return put(typed), toTop();
+  if (typed !== undefined) return replaceField(typed), toTop();
   if (line === undefined) return;
-  put(line);
-  ask(line);
+  replaceField(line);
+  ask(line, undefined, target.closest("#questions") !== null);
   toTop();
 });
 
 window.onhashchange = follow;
+at("run").disabled = false;
 boot();
 showEarlier();
 addEntries();

@@ -6,8 +6,8 @@ import vm from "vm";
 const [script, lines] = process.argv.slice(2);
 vm.runInThisContext(fs.readFileSync(script, "utf8"));
 const read = vm.runInThisContext(`(typed) => {
-  const { line, help, reason } = readTyped(typed), isRun = isCommand(textsOfWords(line));
-  const offers = isRun ? [...meantInstead({ line, typed }).map((it) => it.line)] : offersFor(typed);
-  return { typed, line, help, reason, isRun, computed: isRun ? plainFormula(computedBy(line)) : "", offers };
+  const { line, asked, help, unread } = readTyped(typed), isRun = !unread && help === undefined && isCommand(textsOfWords(line));
+  const offers = (unread ? unread.offers : isRun ? meantInstead({ line, typed }).filter((it) => it.line) : []).map(typedOf);
+  return { typed, line, help, isRun, said: unread && unread.said, computed: isRun ? plainFormula(computedBy(line)) : "", asked: asked ? plainFormula(computedBy(line, asked)) : "", offers };
 }`);
 console.log(JSON.stringify(JSON.parse(fs.readFileSync(lines, "utf8")).map(read)));

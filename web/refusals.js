@@ -83,7 +83,6 @@ function syntaxSentence(words, k, byte) {
   const word = named(words[k] || "");
   if (k === 0) {
     const other = commandLike(words[0]);
-    if (words[0].includes("[") && readExpression(words[0]).isWhole) return sentence("no basis", { word });
     return other ? sentence("meant", { word, other }) : sentence("no command", { word });
   }
   const { places, next, mayEnd } = walk(words.slice(0, k));

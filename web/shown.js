@@ -65,14 +65,14 @@ function linesIn(text) {
 }
 
 /** The text of an answer, in part where it is long, and below it what is shown and how to have the rest. */
-function textOf(line, text) {
+function textOf(line, text, isAsked = () => false) {
   const body = element("pre", { tabindex: "0", "aria-label": "The text of the answer" });
   const part = element("p", { class: "part" }), all = linesIn(text);
   let end = 0, lines = 0;
   const show = (count) => {
     for (const goal = Math.min(lines + count, MOST_LINES); end < text.length && lines < goal && end < MOST_CHARACTERS; ) {
       const next = endOf(text, LINES_SHOWN, end), piece = text.slice(end, next);
-      body.append(element("span", {}, piece));
+      body.append(element("span", {}, ...withMarked(piece, isAsked)));
       lines += linesIn(piece) || LINES_SHOWN;
       end = next;
     }
@@ -86,6 +86,16 @@ function textOf(line, text) {
   };
   show(LINES_SHOWN);
   return [body, part];
+}
+
+/** A piece of a text with the lines marked that were asked for. */
+function withMarked(piece, isAsked) {
+  if (!asksOf(piece)) return [piece];
+  return piece.split(/(?<=\n)/).map((it) => (isAsked(it.trimEnd()) ? element("b", { class: "asked-line" }, it) : it));
+
+  function asksOf(text) {
+    return text.split("\n").some(isAsked);
+  }
 }
 
 /** As much of a text as is looked at before a button asks for more: the lines shown first; a single line whole, if it is not too long. */
@@ -102,7 +112,8 @@ function marked(line, told) {
 }
 
 /** How an answer ended and how long it took, in words. */
-function aboutOf(status, count, time, isStopped) {
+function aboutOf(status, count, time, isStopped, unread) {
+  if (unread && unread.said) return unread.offers.length > 0 ? countOfThings(unread.offers.length, "reading", "readings") : "not read";
   const refused = status < 0 ? "no answer" : `refused, status ${status}`;
   const how = isStopped ? "stopped" : status === 0 ? count : refused;
   const took = time < 1000 ? `${time.toFixed(0)} ms` : `${(time / 1000).toFixed(1)} s`;
@@ -111,34 +122,57 @@ function aboutOf(status, count, time, isStopped) {
 
 const note = (name, ...parts) => element("p", { class: name }, ...parts);
 
-/** What the page did to what was typed, in words, if it did something. */
-function changesOf({ typed, changes }) {
-  return changes.length > 0 ? [note("note", `Typed as “${inSight(typed)}”. The page ${allOf(changes)}.`)] : [];
+/** What was typed, where that is not the line that ran, and what was left out of it. */
+function changesOf({ typed, line, changes }) {
+  const left = changes.length > 0 ? ` The page left out ${allOf(changes)}.` : "";
+  return typed.trim() === line ? [] : [note("note", `Typed as “${named(inSight(typed))}”.${left}`)];
 }
 
-/** A button that runs a line, and what it computes, in mathematics. */
-function offer(line) {
-  return [element("button", { type: "button", "data-line": line }, line), " ", element("span", { class: "math" }, ...formula(computedBy(line)))];
+/** A button that runs a reading, and what that computes, in mathematics. */
+function offer(it) {
+  const typed = typedOf(it), zero = it.zero ? [" ", element("span", { class: "note" }, "is 0 by its sizes")] : [];
+  return [element("button", { type: "button", "data-line": typed }, typed), " ", element("span", { class: "math" }, ...formula(computedBy(it.line, it.asked))), ...zero];
 }
 
 /** What a line that was answered can be meant as, too. (What that would compute is not said: right above the text stands what was computed.) */
 function insteadOf(job) {
-  return meantInstead(job).map((it) => note("offer note", `${it.why}: `, offer(it.line)[0]));
+  return meantInstead(job).map((it) => note("offer note", it.why, ...(it.line ? [": ", offer(it)[0]] : ["."])));
 }
 
-/** What a line could mean that was refused. */
-function offersOf({ typed, reason }) {
-  const lines = offersFor(typed);
-  const items = lines.map((it) => element("li", {}, ...offer(it)));
-  const said = [UNCLEAR[reason], lines.length > 0 ? "It could mean:" : ""].filter(Boolean).join(" ");
-  return [...(said ? [note("unclear", said)] : []), ...(items.length > 0 ? [element("ul", { class: "offers" }, ...items)] : [])];
+/** What a line could mean that was not read, or that was refused. */
+function offersOf({ line, unread }) {
+  const offers = unread ? unread.offers : lettersApart(line);
+  const items = offers.map((it) => element("li", {}, ...offer(it)));
+  const said = items.length > 0 && !(unread && unread.said) ? [note("unclear", "It could mean:")] : [];
+  return items.length > 0 ? [...said, element("ul", { class: "offers" }, ...items)] : [];
+}
+
+/** What of an answer was asked for: the sign of equality and its value, and which lines say it. */
+function askedOf({ line, asked }, text) {
+  const answer = answerOf(line, text), same = (list) => (it) => String(it) === String(partition(list).map(Number));
+  if (!asked || !answer) return null;
+  if (asked.kind === "count") return { value: String(sizeOf(answer, text)), isAsked: () => false };
+  const isTerm = asked.kind === "H" ? (it) => it.q === "0" : (it) => same(asked.kind === "χ" ? asked.of : asked.at)(it.first);
+  const terms = answer.terms.filter(isTerm), isAsked = (it) => (termsOf(`${it}\n`) || []).some(isTerm);
+  return { value: asked.kind === "H" ? shownSum(terms, answer.letter) : (terms[0] || { c: "0" }).c.replace("-", "−"), isAsked, terms };
+}
+
+/** The answer to what was asked for, above the whole answer: its left side and its value, and the line that says it. */
+function askedNote(job, found) {
+  const left = computedBy(job.line, job.asked), isNone = found.terms && found.terms.length === 0;
+  const where = job.asked.kind === "count" ? "There are so many lines" : isNone ? "No line says so: what is not there is 0" : found.terms.length === 1 ? "The marked line says so" : "The marked lines say so";
+  return [
+    element("p", { class: "asked math" }, ...formula(left), " = ", element("strong", {}, ...formula(found.value))),
+    note("note", `${where}. The whole answer is that of ${job.line}:`),
+  ];
 }
 
 /** What the page adds to the text of an answer, in words: what was refused, what it means. */
 function notesOf(job, isDone, told, error) {
-  const { line } = job, notes = told ? [note("said", told.sentence + (error ? ` (${error})` : ""))] : [];
+  const { line, unread } = job, notes = told ? [note(unread && unread.said && unread.offers.length > 0 ? "unclear" : "said", told.sentence + (error ? ` (${error})` : ""))] : [];
   if (isDone && line === "batch") notes.push(note("note", "Here batch has no input. Type commands with ; between them."));
-  return isDone ? [...notes, ...meaningsOf(line).map((it) => note("meaning", ...it))] : notes;
+  const outside = isDone ? [outsideBox(line), namedCoefficients(line)].filter(Boolean).map((it) => note("note", ...formula(it))) : [];
+  return isDone ? [...notes, ...outside, ...(job.isQuestion ? meaningsOf(line) : []).map((it) => note("meaning", ...it))] : notes;
 }
 
 /** What was computed, in mathematics, from the words that ran; and beside the text of a short list of terms the sum that it is. */
@@ -170,24 +204,30 @@ function showUnshown() {
   unshown = [];
 }
 
+/** What is said of a line that has no answer, and which part of it is marked. */
+function toldOf({ line, unread }, status, text) {
+  if (unread && unread.said) return { sentence: unread.said, at: unread.at, length: unread.length };
+  return explained(line, status, text);
+}
+
 /** Shows an answer above the others, and says what it came to. */
 function shownArticle(job, { status, text = "", time, stopped, why, error }) {
-  const { line } = job, isDone = status === 0;
-  const told = stopped || isDone ? null : explained(line, status, text);
-  const answer = isDone ? answerOf(line, frontOf(line, text)) : null, count = countOf(answer, text);
+  const { line, unread } = job, isDone = status === 0;
+  const told = stopped || isDone ? null : toldOf(job, status, text);
+  const answer = isDone ? answerOf(line, frontOf(line, text)) : null, count = countOf(answer, text), found = isDone ? askedOf(job, text) : null;
   const [computed, sum] = isDone || stopped || text === "! Large\n" ? mathematicsOf(line, text, answer) : [[], []];
   const id = `answer-${(numberOfAnswer += 1)}`, title = element("h3", { id }, element("code", { dir: "ltr" }, ...marked(line, told)));
-  const header = element("header", {}, title, element("span", {}, aboutOf(status, count, time, stopped)));
-  const article = element("article", { "aria-labelledby": id, tabindex: "-1" }, header, ...changesOf(job), ...(isDone ? insteadOf(job) : []), ...computed);
+  const header = element("header", {}, title, element("span", {}, aboutOf(status, count, time, stopped, unread)));
+  const article = element("article", { "aria-labelledby": id, tabindex: "-1" }, header, ...changesOf(job), ...(found ? askedNote(job, found) : []), ...(isDone ? insteadOf(job) : []), ...computed);
   if (!isDone) article.className = "refused";
   article.dataset.of = line;
-  if (text) article.append(...textOf(line, text), ...sum);
+  if (text) article.append(...textOf(line, text, found ? found.isAsked : undefined), ...sum);
   if (stopped && why) article.append(note("note", `Press Run for the answer: ${why}.`));
-  article.append(...notesOf(job, isDone, told, error), ...(told ? offersOf(job) : []), toolsOf(line, text, answer));
+  article.append(...notesOf(job, isDone, told, error), ...(told ? offersOf(job) : []), toolsOf(job, text, answer));
   article.append(...picturesOf(line, answer, text));
   place(article);
   performance.mark("answer");
-  const outcome = stopped ? "stopped" : told ? "refused" : count || "done";
+  const outcome = stopped ? "stopped" : told ? (unread && unread.said ? "not run" : "refused") : count || "done";
   return [`${named(inSight(line))}: ${outcome}.`, told ? told.sentence : ""];
 }
 
@@ -235,14 +275,14 @@ function transcript() {
 }
 
 /** The buttons of an answer. What they copy is made when they are pressed. */
-function toolsOf(line, text, answer) {
+function toolsOf({ line, typed, asked }, text, answer) {
   const tools = element("div", { class: "tools" });
   const add = (name, made, what) => tools.append(button(name, () => copy(made(), what)));
   const whole = () => answerOf(line, text);
   if (text) add("Copy text", () => text, "Text");
   if (answer) add("Copy LaTeX", () => latexOf(whole()), "LaTeX");
   if (answer && sageOf(answer) !== null) add("Copy for Sage", () => sageOf(whole()), "Text for Sage");
-  add("Copy link", () => `${location.href.split("#")[0]}#${encodeURIComponent(line)}`, "Link");
+  add("Copy link", () => `${location.href.split("#")[0]}#${encodeURIComponent(asked ? typed : line)}`, "Link");
   return tools;
 }
 
