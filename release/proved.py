@@ -1,4 +1,4 @@
-"""Compiles the proved crates as `rt ci` left them: for library/build, release/prove and release/prebuilt, and for tests/prebuilt."""
+"""Compiles the proved crates as release/prove left them: for library/build and release/prebuilt, and for tests/prebuilt."""
 import base64
 import functools
 import gzip
@@ -6,14 +6,20 @@ import hashlib
 import os
 import re
 import shutil
+import signal
 import subprocess
 import sys
 import tempfile
 
 TOP = os.path.abspath(os.path.join(os.path.dirname(os.path.abspath(__file__)), ".."))
-SOURCES = ("src", "specs", "proofs")
+# The folders of a crate with its sources.
+KINDS = ("src", "specs", "proofs", "c")
 # The objects of the kit with which each program and each library for C is linked, beside its C library.
 PROGRAM, LIBRARY = ("c/libos_c.a", "c/liblibc_c.a"), ("c/liblibc_c.a",)
+
+# (a script that is ended by a signal takes its folders away, as one that fails does)
+for ending in (signal.SIGTERM, signal.SIGHUP):
+    signal.signal(ending, lambda number, frame: sys.exit(128 + number))
 
 # The name by which a program that is linked with the library asks for it. Its number changes when the calls change (library/yorqanish.h).
 SONAME = "libyorqanish.so.0"
@@ -30,7 +36,7 @@ def run(*words, **how):
 
 
 def said_by(*words):
-    return subprocess.run(words, capture_output=True, text=True, check=True).stdout.strip()
+    return subprocess.run(words, capture_output=True, text=True, check=True, stdin=subprocess.DEVNULL).stdout.strip()
 
 
 @functools.cache
@@ -53,22 +59,39 @@ def crate(name):
     return rtlib.Crate(f"{TOP}/crates/{name}", TOP, {})
 
 
-def files_of(folder):
-    """The files that a check of the crate reads."""
-    for kind in SOURCES:
-        for place, _, names in os.walk(f"{folder}/{kind}"):
-            yield from (os.path.join(place, name) for name in names)
+def below(name):
+    """The crate and those that it depends on, each with its line of crates.txt."""
+    with open(f"{TOP}/crates.txt", encoding="utf-8") as file:
+        lines = {re.match(r"\w+", line)[0]: line for line in file if re.match(r"\w+.*:", line)}
+    found, todo = {}, [name]
+    while todo:
+        name = todo.pop()
+        if name in lines and name not in found:
+            found[name] = lines[name]
+            todo += lines[name].partition(":")[2].split()
+    return dict(sorted(found.items()))
 
 
-def is_older(made, name):
-    """Whether what was made of the crate is older than a source of it."""
-    time = os.path.getmtime(made)
-    return any(os.path.getmtime(file) > time for file in files_of(f"{TOP}/crates/{name}"))
+def contents(top):
+    """A sum of all that the program and the libraries below it are made of: the kit, and the files of their crates, but for what editors leave."""
+    names, found = below("calc"), []
+    for name in names:
+        for kind in KINDS:
+            for place, _, files in os.walk(f"{top}/crates/{name}/{kind}"):
+                paths = [os.path.join(place, it) for it in files if not re.fullmatch(r".*~|\.#.*|#.*#|\..*\.sw.", it)]
+                found += [(os.path.relpath(path, top), sum_of(path)) for path in paths]
+    return hashlib.sha256(repr((kit_name(), names, sorted(found))).encode()).hexdigest()
+
+
+def note_beside(name, made_of):
+    """The file that release/prove makes beside a library of these `contents`, in the folder that the kit's commands replace with the library."""
+    return f"{TOP}/crates/{name}/out/rlib/of-{made_of}"
 
 
 def lacks(name):
-    """The libraries below the crate that are not there, or older than a source of theirs."""
-    return [it.name for it in crate(name).below() if not os.path.exists(it.rlib) or is_older(it.rlib, it.name)]
+    """The libraries below the crate that release/prove has not left here, made of what is here."""
+    now = contents(TOP)
+    return [it.name for it in crate(name).below() if not os.path.exists(it.rlib) or not os.path.exists(note_beside(it.name, now))]
 
 
 def toolchain(room, kept):
@@ -85,12 +108,12 @@ def toolchain(room, kept):
     return f"{room}/toolchain"
 
 
-def compile_crate(name, to, module=None):
+def compile_crate(name, to, module=None, target=None):
     """Proves a program, or a static library, over the proved libraries below it, and compiles it to an object, or to an archive of
-    one. The LLVM module that the kit hands to clang on the way is kept, where a path for it is given."""
+    one, for this target of the kit, or else for Linux on x86-64. The LLVM module that the kit hands to clang on the way is kept, where a path for it is given."""
     with tempfile.TemporaryDirectory() as room:
         tools = toolchain(room, module) if module else f"{kit()}/toolchain"
-        words = [*crate(name).words([], keeps=False), "--toolchain", tools, "--backend", "llvm", "-o", to]
+        words = [*crate(name).words([], keeps=False), *(["--target", target] if target else []), "--toolchain", tools, "--backend", "llvm", "-o", to]
         run(f"{kit()}/bin/rattle", "build", *words, cwd=f"{TOP}/crates/{name}", stdout=sys.stderr, stdin=subprocess.DEVNULL)
 
 
@@ -110,13 +133,21 @@ def link_static(whole, program):
     run("gcc", "-static-pie", "-s", "-Wl,-z,relro,-z,now,--build-id=sha1", "-o", program, whole)
 
 
-def link_library(made, library, exports):
-    """Links the archive of a static library as a shared one, by the kit's own linker and with its own C library, so that the same
-    sources and the same kit make the same bytes on any machine."""
-    how = f"-shared -soname {SONAME} --hash-style=gnu --build-id=sha1 --gc-sections --strip-all -z defs -z relro -z now"
-    parts = ["--whole-archive", made, "--no-whole-archive", *(f"{kit()}/{it}" for it in LIBRARY)]
+def link_library(made, folder):
+    """Makes the C library of the archive of a static one, what it takes of the kit, and the call that names its version: libyorqanish.a and
+    libyorqanish.so. By the kit's own linker and C library, so that the same sources and the same kit make the same bytes on any machine."""
+    tools = f"{kit()}/toolchain/bin"
+    with open(f"{TOP}/VERSION", encoding="ascii") as file:
+        version = f'-DYORQANISH_VERSION="{file.read().strip()}"'
+    compiled = "--target=x86_64-unknown-linux-gnu -march=x86-64-v2 -O2 -fPIC -ffreestanding -fno-ident -c".split()
+    linked = f"-shared -soname {SONAME} --hash-style=gnu --build-id=sha1 --gc-sections --strip-all -z defs -z relro -z now -z separate-code".split()
     system = [f"{kit()}/toolchain/lib/{it}" for it in ("libc.so.6", "libgcc.a")]
-    run(f"{kit()}/toolchain/bin/ld.lld", *how.split(), f"--version-script={exports}", "-o", library, *parts, *system)
+    with tempfile.TemporaryDirectory() as room:
+        own, whole = f"{room}/version.o", f"{room}/yorqanish.o"
+        run(f"{tools}/clang", *compiled, version, f"{TOP}/library/version.c", "-o", own)
+        run(f"{tools}/ld.lld", "-r", "--strip-debug", "-o", whole, own, "--whole-archive", made, "--no-whole-archive", *(f"{kit()}/{it}" for it in LIBRARY))
+        run(f"{tools}/llvm-ar", "rcsD", f"{folder}/libyorqanish.a", whole)
+        run(f"{tools}/ld.lld", *linked, f"--version-script={TOP}/library/exports.map", "-o", f"{folder}/libyorqanish.so", whole, *system)
 
 
 def sum_of(*paths):
@@ -126,6 +157,12 @@ def sum_of(*paths):
         with open(path, "rb") as file:
             sum.update(file.read())
     return sum.hexdigest()
+
+
+def genuine(name):
+    """The file of this name that was made of these sources, and first of all here; None if there is none (release/genuine)."""
+    done = subprocess.run(["sh", f"{TOP}/release/genuine", name], capture_output=True, text=True, stdin=subprocess.DEVNULL)
+    return done.stdout.strip() if done.returncode == 0 else None
 
 
 def digest():
@@ -151,50 +188,19 @@ def tools():
     return sum_of(f"{kit()}/bin/rattle", f"{kit()}/bin/rattle-link", *dict.fromkeys(map(os.path.realpath, files)))
 
 
-def version_of(*command):
-    """The first line that a tool of the system says of its version, if it is there."""
-    if not shutil.which(command[0]):
-        return "none"
-    said = subprocess.run([*command, "--version"], capture_output=True, text=True)
-    return (said.stdout or said.stderr).partition("\n")[0].strip() or "unknown"
+def versions():
+    """The versions of the tools of the system that make a static program and the page."""
+    def said(tool):
+        return said_by(tool, "--version").partition("\n")[0] if shutil.which(tool) else "none"
+
+    return {name: said(tool) for name, tool in {"gcc": "gcc", "linker": "ld", "libc": "ldd", "binaryen": "wasm-opt"}.items()}
 
 
-def files_of_tool(name):
-    """The file of a tool of the system, and those of the libraries that it loads."""
-    path = os.path.realpath(shutil.which(name))
-    listed = subprocess.run(["ldd", path], capture_output=True, text=True).stdout.split() if shutil.which("ldd") else []
-    return [path, *sorted(os.path.realpath(it) for it in listed if it.startswith("/"))]
-
-
-# The sums of the ways in which the files are linked.
-THIS = os.path.abspath(__file__)
-
-
-def static_parts():
-    """A sum of what this machine adds to a static program: its linker, and the files of its C library and compiler. None if one is missing."""
-    if not shutil.which("gcc") or not shutil.which("ld"):
-        return None
-    names = "libc.a libgcc.a libgcc_eh.a rcrt1.o crti.o crtbeginS.o crtendS.o crtn.o".split()
-    files = [said_by("gcc", f"-print-file-name={name}") for name in names]
-    return sum_of(THIS, *files, *files_of_tool("gcc"), *files_of_tool("ld")) if all(map(os.path.isfile, files)) else None
-
-
-def library_parts():
-    """A sum of what the C library is linked by."""
-    return sum_of(THIS, f"{TOP}/library/exports.map")
-
-
-def module_parts():
-    """A sum of what the module of the page is made from beside the C library's code: the script, the module's memory, and the tool that
-    lowers it. None if that is missing."""
-    return sum_of(f"{TOP}/web/build", f"{TOP}/web/heap.c", *files_of_tool("wasm-opt")) if shutil.which("wasm-opt") else None
-
-
-def page_parts():
-    """A sum of what the page is made from beside its module."""
-    names = sorted(set(os.listdir(f"{TOP}/web")) - {"browse.py", "cases.mjs", "heap.c", "__pycache__"})
-    others = ("calc.1", "docs/DEFINITIONS.md", "VERSION", "CITATION.cff")
-    return sum_of(*(f"{TOP}/web/{name}" for name in names), *(f"{TOP}/{name}" for name in others))
+def scripts():
+    """A sum of what else goes into the files of prebuilt/: the way in which they are linked, and the texts of the page."""
+    page = sorted(set(os.listdir(f"{TOP}/web")) - {"browse.py", "cases.mjs", "readings.mjs", "__pycache__"})
+    others = ("release/proved.py", "library/exports.map", "library/version.c", "calc.1", "docs/DEFINITIONS.md", "VERSION", "CITATION.cff")
+    return sum_of(*(f"{TOP}/web/{name}" for name in page), *(f"{TOP}/{name}" for name in others))
 
 
 def parts_of_page(path):

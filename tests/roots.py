@@ -5,8 +5,8 @@ import shutil
 import subprocess
 import tempfile
 
-# The tools that ./calc uses. It needs the first two.
-TOOLS = ("sh", "sha256sum", "ls", "cmp", "touch", "stat", "mkdir", "mv", "rm", "chmod")
+# The tools that ./calc uses.
+TOOLS = ("sh", "find", "sort", "xargs", "sha256sum", "chmod")
 
 
 class Skipped(Exception):
@@ -29,7 +29,7 @@ def put(tool, root):
 
 @contextlib.contextmanager
 def bare_root(of_busybox):
-    """A root with the tools of coreutils that ./calc needs, or with busybox and all its tools, and the words that run a command in it."""
+    """A root with the tools that ./calc needs, or with busybox and all its tools, and the words that run a command in it."""
     is_user = os.geteuid() != 0
     missing = [tool for tool in ("ldd", "chroot", *["unshare"] * is_user, *(["busybox"] if of_busybox else TOOLS)) if not path_of(tool)]
     if missing:
