@@ -1,4 +1,4 @@
-"""Reads files of specs/ and proofs/, and statements as terms. `lemmas` in this folder uses it."""
+"""Reads files of specs/ and proofs/, and statements as terms. `lemmas` in this folder uses it, and check/source.py."""
 import itertools
 import re
 
