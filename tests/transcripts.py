@@ -224,9 +224,9 @@ def fronts(case):
     return [b""] + [b"--\n".join(blocks[:count]) + end for count in range(1, len(blocks)) for end in (b"", b"--\n")]
 
 
-def outcome(case):
-    """The faults of a run of the case, "" if there are none."""
-    command = [program(), *case.words]
+def outcome(case, begin=()):
+    """The faults of a run of the case, "" if there are none; by the program, or by what begins with these words."""
+    command = [*(begin or [program()]), *case.words]
     try:
         status, written, told = run(command, case)
     except subprocess.TimeoutExpired:

@@ -1,9 +1,13 @@
 #!/usr/bin/env python3
-"""Prints the numbers of semistandard tableaux of some skew shapes with some contents, by Debian's `lrcalc`: `skew_kostka.py`.
+"""Compares the numbers of semistandard tableaux of some skew shapes with some contents with Debian's `lrcalc`: `skew_kostka.py`.
 
 A skew Schur polynomial is expanded in Schur polynomials by `lrcalc skew`, and the coefficient of each in the product of
-the rows of the content is counted by `lrcalc mult`. The order of the content does not count. Each line is one of those that
-`library_rows` prints for `Fillings::with_content`."""
+the rows of the content is counted by `lrcalc mult`. The order of the content does not count. The lines that `library_rows` prints
+for `Fillings::with_content` must be these."""
+import os
+import re
+import sys
+
 from common import printed, terms
 from kostka import rows_of
 
@@ -26,9 +30,16 @@ def number(outer, inner, content):
 
 
 def main():
+    top = os.path.join(os.path.dirname(os.path.abspath(__file__)), "..", "..")
+    with open(f"{top}/crates/library_rows/stdout", encoding="utf-8") as file:
+        stored = [line for line in file.read().splitlines() if re.match("tableaux of .* with content", line)]
+    expected = []
     for outer, inner, content in CASES:
         text = " / ".join("(" + ",".join(map(str, shape)) + ")" for shape in (outer, inner))
-        print(f"tableaux of {text} with content ({','.join(map(str, content))}): {number(outer, inner, content)}")
+        expected.append(f"tableaux of {text} with content ({','.join(map(str, content))}): {number(outer, inner, content)}")
+    for line in sorted(set(stored) ^ set(expected)):
+        print(f"skew_kostka.py: only one of the two has: {line}")
+    sys.exit(stored != expected)
 
 
 if __name__ == "__main__":
