@@ -38,6 +38,7 @@ class Tally:
     def __init__(self):
         self.passed = self.failed = 0
         self.wanted = collections.Counter()
+        self.again = []
         self.is_ended = False
         # (the counts are not lost if a script breaks off)
         atexit.register(self.break_off)
@@ -72,6 +73,8 @@ class Tally:
         if self.wanted:
             each = "; ".join(f"{count} for want of {want}" for want, count in self.wanted.most_common())
             print(f"{sum(self.wanted.values())} skipped: {each}")
+        if self.again:
+            print(f"failed once, and passed when it was run again: {', '.join(self.again)}")
         print(f"{self.passed} passed, {self.failed} failed", flush=True)
         return int(self.failed > 0)
 
