@@ -19,22 +19,10 @@ loop-label-preserved c =
     let pushed : done ++ p ∷ [] ≡ map (λ item. item.now) (c.loop-label.yielded ++ c.in-Some.field-0
     ∷ []) =
     sym (map-append (λ item. item.now) c.loop-label.yielded (c.in-Some.field-0 ∷ [])) in
-    let here : rows p.0 ≤ c.max-most.result = omega (
-      arith,
-      c.max-most.ensures,
-      c.rows.ensures.value,
-    ) in
-    let longer : c.loop-label.most ≤ c.max-most.result = omega (arith, c.max-most.ensures) in
     record {
-      most = λ t m. among done p c.loop-label.most c.max-most.result c.loop-label.invariant.most
-          here longer t (subst (λ l. Among t l) (sym pushed) m);
-      within = omega (
-        arith,
-        c.max-most.ensures,
-        c.rows.ensures.value,
-        c.rows.ensures.limits.few,
-        c.loop-label.invariant.within,
-      );
+      most = λ t m. among done p c.loop-label.most _ c.loop-label.invariant.most (omega arith) (omega arith)
+          t (subst (λ l. Among t l) (sym pushed) m);
+      within = omega arith;
       so_far = so_far_next done rest c.loop-label.label-iterator.rest.now _ _ p pushed
           c.in-Some.ensures.steps c.loop-label.invariant.so_far;
     }

@@ -14,6 +14,14 @@ use Rattle.lr_product.proofs.Agreeing.{agree_same, agree_then, agree_sum}
 use Rattle.lr_product.proofs.ManyStarts.{started-push}
 use Rattle.lr_product.proofs.next_factor.starts_of.Goals as goal
 
+-- one more term, whose label and whose coefficient's absolute value are given
+next_start : (n : ℕ) (f : List ℕ → List ℕ → ℕ) (done : List (List ℕ × ℤ)) (p : List ℕ × ℤ) (all : List (List ℕ × ℤ)) (parts : List ℕ) (count total : ℕ)
+    → parts ≡ p.0 → count ≡ nat_abs p.1 → done ++ p ∷ [] ≡ all → Agree total (started n f done)
+    → Agree (total + count * f (resize n parts) []) (started n f all)
+next_start n f done p all parts count total is size pushed before =
+    agree_then _ _ _ (agree_sum _ _ (count * f (resize n parts) []) before)
+    (agree_same _ _ (ap (λ x. started n f done + x) (ap₂ ◌*◌ size (ap (λ l. f (resize n l) []) is)) ∙ started-push n f done p ∙ ap (started n f) pushed))
+
 pub loop-label-init : goal.loop-label-init
 loop-label-init c = search (rules, agree_same)
 
@@ -26,14 +34,14 @@ add_start-requires-clause-rows c =
     c.in-Some.ensures.steps c.loop-label.invariant.so_far
     (ap (λ (it : Iter (List ℕ × ℤ)). it.rest.now)
     c.into_iter-label-iterator.ensures.into_iter_gives) c.iter-label-items.ensures.rest in
-    subst (λ l. rows l ≤ c.args.letters) (sym c.parts.ensures.value)
-    (c.requires.rows p (subst (λ l. Among p l) all (next_among done p rest)))
+    let few : rows p.0 ≤ c.args.letters = c.requires.rows p (subst (λ l. Among p l) all (next_among done p rest)) in
+    search rules
 
 pub add_start-requires-clause-width : goal.add_start-requires-clause-width
 add_start-requires-clause-width c = c.loop-label.invariant.width
 
 pub add_start-requires-clause-count : goal.add_start-requires-clause-count
-add_start-requires-clause-count c = omega (arith, c.unsigned_abs.ensures.bound)
+add_start-requires-clause-count c = omega arith
 
 pub loop-label-preserved : goal.loop-label-preserved
 loop-label-preserved c =
@@ -44,19 +52,10 @@ loop-label-preserved c =
     let pushed : done ++ p ∷ [] ≡ map (λ item. item.now) (c.loop-label.yielded ++ c.in-Some.field-0
     ∷ []) =
     sym (map-append (λ item. item.now) c.loop-label.yielded (c.in-Some.field-0 ∷ [])) in
-    let count : c.unsigned_abs.result ≡ nat_abs p.1 = c.unsigned_abs.ensures.value ∙ ap nat_abs
-    (to_z-of_z {w = w128} {z = c.get.result} (record { sfits = c.get.type_inv })
-    ∙ c.get.ensures) in
     record {
-      width = c.in_ok-add_start.ensures.width ∙ c.loop-label.invariant.width;
-      counts = λ f.
-          let here : f (resize n c.parts.result.now) [] ≡ f (resize n p.0) [] =
-          ap (λ l. f (resize n l) []) c.parts.ensures.value in
-          agree_then _ _ _ (c.in_ok-add_start.ensures.adds f) (agree_then _ _ _
-          (agree_sum _ _ (c.unsigned_abs.result * f (resize n c.parts.result.now) [])
-          (c.loop-label.invariant.counts f))
-          (agree_same _ _ (ap (λ x. started n f done + x) (ap₂ ◌*◌ count here) ∙ started-push n f
-          done p ∙ ap (started n f) pushed)));
+      width = search rules;
+      counts = λ f. agree_then _ _ _ (c.in_ok-add_start.ensures.adds f)
+          (next_start n f done p _ _ _ _ (search rules) (search (rules, to_z-of_z)) pushed (c.loop-label.invariant.counts f));
       so_far = so_far_next done rest c.loop-label.label-iterator.rest.now _ _ p pushed
           c.in-Some.ensures.steps c.loop-label.invariant.so_far;
     }
