@@ -15,6 +15,8 @@ TOP = os.path.join(os.path.dirname(os.path.abspath(__file__)), "..")
 CASES = os.path.join(TOP, "tests/cases")
 # Longer than this no run takes, on however busy a machine: it hangs.
 SECONDS = 300
+# So many odd answers of a tool of others are taken for the tool's own; more are a failure.
+MOST_ODD = 3
 # Whether the goals of times are checked. Times depend on the machine as much as on the program, so they are only printed unless this is asked
 # for.
 CLOCKS = os.environ.get("YORQANISH_CLOCKS") == "1"
@@ -37,8 +39,7 @@ class Tally:
 
     def __init__(self):
         self.passed = self.failed = 0
-        self.wanted = collections.Counter()
-        self.again = []
+        self.wanted, self.odd, self.again = collections.Counter(), collections.Counter(), []
         self.is_ended = False
         # (the counts are not lost if a script breaks off)
         atexit.register(self.break_off)
@@ -49,6 +50,20 @@ class Tally:
             print(f"FAILED {name}: {wrong}", flush=True)
         else:
             self.passed += 1
+
+    def count_twice(self, name, tool, attempt, again):
+        """Counts an attempt by a tool of others, as a browser: what is wrong is tried `again` in a fresh start of the tool. If that is right, what was
+        wrong is the tool's, which is said, and no failure unless it comes often. Each attempt gives what is wrong."""
+        wrong = attempt()
+        if wrong:
+            print(f"{name}: wrong by {tool}, which is started afresh: {wrong}", flush=True)
+            wrong = again()
+            self.odd[tool] += not wrong
+            if not wrong and self.odd[tool] > MOST_ODD:
+                wrong = f"right afresh, but this was odd answer {self.odd[tool]} by {tool}"
+            elif not wrong:
+                print(f"{name}: right afresh: what was wrong is taken for {tool}'s own", flush=True)
+        self.count(name, wrong)
 
     def clock(self, name, seconds, goal):
         """Checks a time against its goal if clocks are asked for, and else prints it."""
