@@ -236,11 +236,11 @@ pair_x_zero m f ψ i =
     inside true c z = refl
     inside false c z = omega (arith, ints)
 
-turned_is : (n : ℕ) (z : ℤ) → turned n z ≡ minus_one_to n *ℤ z
+pub turned_is : (n : ℕ) (z : ℤ) → turned n z ≡ minus_one_to n *ℤ z
 turned_is zero z = sym (one-product z)
 turned_is (suc n) z = turned_neg n z ∙ ap neg_ℤ (turned_is n z) ∙ sym (negation-product (minus_one_to n) z)
 
-from_one : (v w : List ℕ) → IsOneLine v → IsOneLine w → AreInverse v w → IsInverse w v
+pub from_one : (v w : List ℕ) → IsOneLine v → IsOneLine w → AreInverse v w → IsInverse w v
 from_one v w o u a = record {
   one_line = u;
   other = o;

@@ -11,5 +11,6 @@ pub mod DoubleDuals
 pub mod IndependentDoubles
 pub mod InverseSteps
 pub mod Inverses
-pub mod Columns
-pub mod ColumnSteps
+pub mod Rows
+pub mod RowSteps
+pub mod RowsFromOne

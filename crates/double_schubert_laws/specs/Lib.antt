@@ -1,3 +1,4 @@
 pub mod Factors
 pub mod ShortShifts
 pub mod AtZero
+pub mod DiagramRows

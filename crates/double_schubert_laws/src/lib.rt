@@ -11,14 +11,18 @@
 //! polynomials. `double_schubert_independence_law`: double Schubert polynomials are linearly
 //! independent over the polynomials in y. `double_at_zero_law`: at x = 0 the polynomial is, up to
 //! its sign, the Schubert polynomial of the inverse permutation in the variables y.
+//! `diagram_rows_law`: the product of a polynomial and a Schubert polynomial, by products with
+//! elementary polynomials and Monk's rule for the divided differences of a product of x_i - y_j.
 #![tactic(auto)]
 
 mod double_laws;
 mod independence;
 mod inverse_laws;
+mod row_laws;
 mod rule_laws;
 
 pub use double_laws::double_schubert_law;
 pub use independence::double_schubert_independence_law;
 pub use inverse_laws::double_at_zero_law;
+pub use row_laws::diagram_rows_law;
 pub use rule_laws::double_monk_law;

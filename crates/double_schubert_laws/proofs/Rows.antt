@@ -1,19 +1,17 @@
--- The product Δ of all x_i - y_j with i + j at most n, multiplied up one variable x after another (`below`), and the polynomials U_q that divided
--- differences along a path to q give from it, at x = 0 (`value_at`). The factors with x_i are expanded in powers of x_i, with elementary polynomials in y
--- as coefficients; each x_i acts on q by Monk's rule for divided differences (`column`). Places and variables are counted from 0.
+-- The product of the x_i - y_j over the cells (i, j) of a diagram, multiplied up one row after another (`below`), and the polynomials U_q that divided
+-- differences along a path to q give from it, at x = 0 (`value_at`). The row of x_i has `get_or rows i 0` cells, at most n. Its factors are expanded in
+-- powers of x_i, with elementary polynomials in y as coefficients; each x_i acts on q by Monk's rule for divided differences (`row_expanded` in
+-- RowSteps). Places and variables are counted from 0.
 --     moved_by i F q     minus the sum of Monk's rule for q at the place of the letter n - i: what x_i does to the values F
 --     expanded           the sum over d of (-1)^(e-d)·e_(e-d)(y_1, .., y_c)·x_i^d, as it acts on polynomials P(q)
---     column             the values of `below n (i + 1)` from those of `below n i`
 --     no_value           the value at q is 0 if the letters 1, .., n - i do not stand in decreasing order in q
-use Rattle.std.proofs.Common.{◌≡◌, ℕ, zero, suc, ◌+◌, ◌-◌, ◌<◌, ◌≤◌, List, [], ◌∷◌, length, get_or, replicate, map, refl, sym, ◌∙◌, ap, ap₂, arith, inl, inr, ◌⊎◌, None, ℤ, pos, ◌+ℤ◌, ◌-ℤ◌, ◌*ℤ◌, neg_ℤ}
+use Rattle.std.proofs.Common.{◌≡◌, ℕ, zero, suc, ◌+◌, ◌-◌, ◌<◌, ◌≤◌, List, [], ◌∷◌, length, get_or, take, replicate, map, refl, sym, ◌∙◌, ap, ap₂, arith, inl, inr, ◌⊎◌, None, ℤ, pos, ◌+ℤ◌, ◌-ℤ◌, ◌*ℤ◌, neg_ℤ}
 use Rattle.std.proofs.lemmas.Int.{ints}
-use Rattle.sym_model.specs.Alternant.{staircase}
 use Rattle.sym_model.specs.BetaList.{rising_pairs}
 use Rattle.sym_model.specs.Sum.{Among}
 use Rattle.sym_model.specs.Polynomial.{Term, Poly, In, nothing, one, plus, negate, times, pair, join}
 use Rattle.sym_model.specs.Permutation.{IsOneLine, first_ascent}
 use Rattle.sym_model.specs.DividedDifference.{variable_in, differences_after}
-use Rattle.sym_model.specs.DoubleSchubert.{difference_product}
 use Rattle.sym_model.specs.Schubert.{schubert_over}
 use Rattle.sym_model.proofs.Polynomials.{pair_ext, pair_plus, pair_times, pair_one, pair_zero, same_from_pair, In_one, In_each, In_map}
 use Rattle.sym_model.proofs.Exponents.{length-join}
@@ -32,8 +30,9 @@ use Rattle.schubert_laws.proofs.Paths.{over_top}
 use Rattle.schubert_laws.proofs.Pieri.{part_ext}
 use Rattle.schubert_laws.proofs.Swaps.{swap_at, length-swap_at}
 use Rattle.double_schubert_laws.specs.AtZero.{at_x_zero}
+use Rattle.double_schubert_laws.specs.DiagramRows.{AreWithin, HasLeftAscent}
 use Rattle.double_schubert_laws.proofs.DiagramProducts.{less, row, diagram, row_ext, diagram_ext, row_less, row_last, apart_before, apart_after, along_raised, row_along}
-use Rattle.double_schubert_laws.proofs.DoubleDominant.{length-unit, pair_less, pair_difference_product}
+use Rattle.double_schubert_laws.proofs.DoubleDominant.{length-unit, pair_less}
 use Rattle.double_schubert_laws.proofs.InverseSteps.{turned}
 
 -- ---- the polynomials
@@ -43,10 +42,10 @@ abbrev pub row_times : ℕ → ℕ → ℕ → Poly → Poly
 row_times n r zero g = g
 row_times n r (suc c) g = times (plus (variable_after r) (negate (variable_after (n + c)))) (row_times n r c g)
 
--- the factors of Δ with the variables x_0, .., x_(i-1)
-abbrev pub below : ℕ → ℕ → Poly
-below n zero = one (n + n)
-below n (suc i) = row_times n i (n - suc i) (below n i)
+-- the factors of the rows of x_0, .., x_(i-1)
+abbrev pub below : ℕ → List ℕ → ℕ → Poly
+below n rows zero = one (n + n)
+below n rows (suc i) = row_times n i (get_or rows i 0) (below n rows i)
 
 abbrev UpTo : ℕ → Poly → Type 0
 UpTo N f = (t : Term) → Among t f → length t.0 ≤ N
@@ -84,9 +83,9 @@ In_row n r (suc c) g i h l =
     (up_to_negated (n + n) (variable_after (n + c)) (up_to_variable (n + n) (n + c) (omega arith))))
     (In_row n r c g i h (omega arith))
 
-pub In_below : (n i : ℕ) → i ≤ n → In (n + n) (below n i)
-In_below n zero h = In_one (n + n)
-In_below n (suc i) h = In_row n i (n - suc i) (below n i) (In_below n i (omega arith)) (omega arith) (omega arith)
+pub In_below : (n : ℕ) (rows : List ℕ) (i : ℕ) → AreWithin n rows → i ≤ n → In (n + n) (below n rows i)
+In_below n rows zero w h = In_one (n + n)
+In_below n rows (suc i) w h = In_row n i (get_or rows i 0) (below n rows i) (In_below n rows i w (omega arith)) (omega arith) (w.at i)
 
 pub pair_row : (n r c : ℕ) (g : Poly) (φ : List ℕ → ℤ) → In (n + n) g → r < n → c ≤ n → pair (row_times n r c g) φ ≡ pair g (row r n c φ)
 pair_row n r zero g φ i h l = refl
@@ -95,7 +94,7 @@ pair_row n r (suc c) g φ i h l =
     ∙ pair_row n r c g (less r (n + c) φ) i h (omega arith)
     ∙ pair_ext g (row r n c (less r (n + c) φ)) (row r n (suc c) φ) (λ α. row_less r n c r (n + c) φ α ∙ sym (row_last r n c φ α))
 
--- ---- all factors: the product Δ
+-- ---- the product over the first i rows
 
 row_row : (r s c p q e : ℕ) (φ : List ℕ → ℤ) (α : List ℕ) → row r s c (row p q e φ) α ≡ row p q e (row r s c φ) α
 row_row r s c p q zero φ α = refl
@@ -103,25 +102,28 @@ row_row r s c p q (suc e) φ α =
     row_row r s c p (suc q) e (less p q φ) α
     ∙ row_ext p (suc q) e (row r s c (less p q φ)) (less p q (row r s c φ)) (row_less r s c p q φ) α
 
-diagram_row : (s r : ℕ) (cs : List ℕ) (p q e : ℕ) (φ : List ℕ → ℤ) (α : List ℕ) → diagram s r cs (row p q e φ) α ≡ row p q e (diagram s r cs φ) α
+diagram_row : (s r : ℕ) (rows : List ℕ) (p q e : ℕ) (φ : List ℕ → ℤ) (α : List ℕ) → diagram s r rows (row p q e φ) α ≡ row p q e (diagram s r rows φ) α
 diagram_row s r [] p q e φ α = refl
-diagram_row s r (c ∷ cs) p q e φ α =
-    diagram_ext s (suc r) cs (row r s c (row p q e φ)) (row p q e (row r s c φ)) (row_row r s c p q e φ) α
-    ∙ diagram_row s (suc r) cs p q e (row r s c φ) α
+diagram_row s r (c ∷ rows) p q e φ α =
+    diagram_ext s (suc r) rows (row r s c (row p q e φ)) (row p q e (row r s c φ)) (row_row r s c p q e φ) α
+    ∙ diagram_row s (suc r) rows p q e (row r s c φ) α
 
-below_diagram : (n i j : ℕ) (φ : List ℕ → ℤ) → i + j ≡ n → pair (below n i) (diagram n i (staircase j) φ) ≡ diagram n 0 (staircase n) φ (replicate (n + n) 0)
-below_diagram n zero j φ e =
-    let z : j ≡ n = omega arith in
-    pair_one (n + n) (diagram n 0 (staircase j) φ) ∙ ap (λ k. diagram n 0 (staircase k) φ (replicate (n + n) 0)) z
-below_diagram n (suc i) j φ e =
-    let z : n - suc i ≡ j = omega arith in
-    pair_row n i (n - suc i) (below n i) (diagram n (suc i) (staircase j) φ) (In_below n i (omega arith)) (omega arith) (omega arith)
-    ∙ ap (λ c. pair (below n i) (row i n c (diagram n (suc i) (staircase j) φ))) z
-    ∙ pair_ext (below n i) (row i n j (diagram n (suc i) (staircase j) φ)) (diagram n i (j ∷ staircase j) φ) (λ α. sym (diagram_row n (suc i) (staircase j) i n j φ α))
-    ∙ below_diagram n i (suc j) φ (omega arith)
+-- the rows from the index r on, before the index r + i
+diagram_next : (s r i j : ℕ) (rows : List ℕ) (φ : List ℕ → ℤ) (α : List ℕ) → j ≡ r + i
+    → diagram s r (take (suc i) rows) φ α ≡ row j s (get_or rows i 0) (diagram s r (take i rows) φ) α
+diagram_next s r zero j [] φ α e = refl
+diagram_next s r (suc i) j [] φ α e = refl
+diagram_next s r zero j (c ∷ rows) φ α e = let d : r ≡ j = omega arith in ap (λ k. row k s c φ α) d
+diagram_next s r (suc i) j (c ∷ rows) φ α e = diagram_next s (suc r) i j rows (row r s c φ) α (omega arith)
 
-pub below_all : (n : ℕ) (φ : List ℕ → ℤ) → pair (below n n) φ ≡ pair (difference_product n n) φ
-below_all n φ = below_diagram n n 0 φ (omega arith) ∙ sym (pair_difference_product n n φ (omega arith))
+pub below_diagram : (n : ℕ) (rows : List ℕ) (i : ℕ) (φ : List ℕ → ℤ) → AreWithin n rows → i ≤ n
+    → pair (below n rows i) φ ≡ diagram n 0 (take i rows) φ (replicate (n + n) 0)
+below_diagram n rows zero φ w h = pair_one (n + n) φ
+below_diagram n rows (suc i) φ w h =
+    pair_row n i (get_or rows i 0) (below n rows i) φ (In_below n rows i w (omega arith)) (omega arith) (w.at i)
+    ∙ below_diagram n rows i (row i n (get_or rows i 0) φ) w (omega arith)
+    ∙ diagram_row n 0 (take i rows) i n (get_or rows i 0) φ (replicate (n + n) 0)
+    ∙ sym (diagram_next n 0 i i rows φ (replicate (n + n) 0) (omega arith))
 
 -- ---- divided differences along a path are linear, and pass through a later variable
 
@@ -239,15 +241,15 @@ x_acts n i g ψ q k s h =
 pub record IsFree (n i : ℕ) (g : Poly) : Type 0 where
   pub none : (k : ℕ) → i ≤ k → suc k < n → (φ : List ℕ → ℤ) → pair g (along k φ) ≡ pos 0
 
-pub free_below : (n i : ℕ) → i ≤ n → IsFree n i (below n i)
-free_below n zero h = record { none = λ k l m φ. pair_one (n + n) (along k φ) ∙ along_zeros k (n + n) φ }
-free_below n (suc i) h =
-    let r = free_below n i (omega arith) in
+pub free_below : (n : ℕ) (rows : List ℕ) (i : ℕ) → AreWithin n rows → i ≤ n → IsFree n i (below n rows i)
+free_below n rows zero w h = record { none = λ k l m φ. pair_one (n + n) (along k φ) ∙ along_zeros k (n + n) φ }
+free_below n rows (suc i) w h =
+    let r = free_below n rows i w (omega arith) in
     record {
       none = λ k l m φ.
-          pair_row n i (n - suc i) (below n i) (along k φ) (In_below n i (omega arith)) (omega arith) (omega arith)
-          ∙ pair_ext (below n i) (row i n (n - suc i) (along k φ)) (along k (row i n (n - suc i) φ)) (λ α. row_along k i n (n - suc i) φ α (apart_before k i (omega arith)) m)
-          ∙ r.none k (omega arith) m (row i n (n - suc i) φ);
+          pair_row n i (get_or rows i 0) (below n rows i) (along k φ) (In_below n rows i w (omega arith)) (omega arith) (w.at i)
+          ∙ pair_ext (below n rows i) (row i n (get_or rows i 0) (along k φ)) (along k (row i n (get_or rows i 0) φ)) (λ α. row_along k i n (get_or rows i 0) φ α (apart_before k i (omega arith)) m)
+          ∙ r.none k (omega arith) m (row i n (get_or rows i 0) φ);
     }
 
 free_times : (n i : ℕ) (g : Poly) → In (n + n) g → i < n → IsFree n (suc i) g → IsFree n (suc i) (times (variable_after i) g)
@@ -261,14 +263,7 @@ free_times n i g j h f = record {
 pub free_more : (n i : ℕ) (g : Poly) → IsFree n i g → IsFree n (suc i) g
 free_more n i g f = record { none = λ k l m φ. f.none k (omega arith) m φ }
 
--- two letters a, a + 1 of 1, .., t stand in q in this order
-pub record Rising (t : ℕ) (q : List ℕ) : Type 0 where
-  pub letter : ℕ
-  pub first : 1 ≤ letter
-  pub last : suc letter ≤ t
-  pub order : letters_before letter q < letters_before (suc letter) q
-
-pub no_value : (n i : ℕ) (g : Poly) (ψ : List ℕ → ℤ) (q : List ℕ) → i ≤ n → IsFree n i g → IsState n q → Rising (n - i) q → value_at n g ψ q ≡ pos 0
+pub no_value : (n i : ℕ) (g : Poly) (ψ : List ℕ → ℤ) (q : List ℕ) → i ≤ n → IsFree n i g → IsState n q → HasLeftAscent (n - i) q → value_at n g ψ q ≡ pos 0
 no_value n i g ψ q h f s r =
     let size = s.size in
     let first = r.first in
@@ -281,7 +276,7 @@ no_value n i g ψ q h f s r =
 
 -- ---- values that stay 0, at lists with two rising letters, if x_i acts on them any number of times
 
-abbrev moved_power : ℕ → ℕ → ℕ → (List ℕ → ℤ) → List ℕ → ℤ
+abbrev pub moved_power : ℕ → ℕ → ℕ → (List ℕ → ℤ) → List ℕ → ℤ
 moved_power zero n i F = F
 moved_power (suc d) n i F = moved_power d n i (moved_by n i F)
 
@@ -296,7 +291,7 @@ power_minus (suc d) n i F G q s h =
     ∙ power_minus d n i (moved_by n i F) (moved_by n i G) q s h
 
 pub record IsTame (n i : ℕ) (F : List ℕ → ℤ) : Type 0 where
-  pub none : (d : ℕ) (q : List ℕ) → IsState n q → Rising (n - suc i) q → moved_power d n i F q ≡ pos 0
+  pub none : (d : ℕ) (q : List ℕ) → IsState n q → HasLeftAscent (n - suc i) q → moved_power d n i F q ≡ pos 0
 
 tame_ext : (n i : ℕ) (F G : List ℕ → ℤ) → i < n → ((v : List ℕ) → IsState n v → F v ≡ G v) → IsTame n i F → IsTame n i G
 tame_ext n i F G h e t = record { none = λ d q s r. power_ext d n i G F q s h (λ v u. sym (e v u)) ∙ t.none d q s r }
@@ -323,7 +318,7 @@ tame_add n i F G h t u =
     tame_ext n i (λ v. F v -ℤ neg_ℤ (G v)) (λ v. F v +ℤ G v) h (λ v s. omega (arith, ints))
     (tame_minus n i F (λ v. neg_ℤ (G v)) h t (tame_neg n i G h u))
 
-power_value : (d n i : ℕ) (g : Poly) (ψ : List ℕ → ℤ) (q : List ℕ) → In (n + n) g → IsState n q → i < n → IsFree n (suc i) g → Rising (n - suc i) q
+power_value : (d n i : ℕ) (g : Poly) (ψ : List ℕ → ℤ) (q : List ℕ) → In (n + n) g → IsState n q → i < n → IsFree n (suc i) g → HasLeftAscent (n - suc i) q
     → moved_power d n i (value_at n g ψ) q ≡ pos 0
 power_value zero n i g ψ q j s h f r = no_value n (suc i) g ψ q (omega arith) f s r
 power_value (suc d) n i g ψ q j s h f r =

@@ -1,39 +1,36 @@
--- The product of a polynomial s with the values of Columns, in any number of variables y, step by step (`value_of`). For s = ±S_u, the last step is the
--- product S_u·S_v.
---     column_step     one more variable x_i: the values for i + 1 are sums of values for i times elementary polynomials
---     column_start    no variable x: the value at n, .., 1 is s, every other one is 0
---     column_end      all n variables x: the value at the inverse of v is s·S_v, up to the sign
---     column_none     the value for i is 0 at q if the letters 1, .., n - i do not stand in decreasing order in q
---     column_tame     this stays so under x_i
-use Rattle.std.proofs.Common.{◌≡◌, ℕ, zero, suc, ◌+◌, ◌-◌, ◌<◌, ◌≤◌, ◌==◌, ◌&&◌, List, [], ◌∷◌, ◌++◌, length, drop, take, replicate, refl, sym, ◌∙◌, ap, ap₂, arith, cond, None, ℤ, pos, ◌+ℤ◌, ◌-ℤ◌, length-drop}
+-- The product of a polynomial s with the values of Rows, in any number k of variables y, row by row (`value_of`).
+--     row_step      one more row: the values for i + 1 are sums of values for i times elementary polynomials
+--     row_start     no row: the value at n, .., 1 is s
+--     row_none      the value for i is 0 at q if the letters 1, .., n - i do not stand in decreasing order in q
+--     row_tame      this stays so under x_i
+use Rattle.std.proofs.Common.{◌≡◌, ℕ, zero, suc, ◌+◌, ◌-◌, ◌<◌, ◌≤◌, ◌==◌, ◌&&◌, List, [], ◌∷◌, ◌++◌, length, drop, take, get_or, replicate, refl, sym, ◌∙◌, ap, ap₂, arith, cond, None, ℤ, pos, ◌+ℤ◌, ◌-ℤ◌, length-drop}
 use Rattle.std.proofs.lemmas.Int.{ints}
 use Rattle.sym_model.specs.BetaList.{rising_pairs}
-use Rattle.sym_model.specs.PlaceOrders.{inversions}
 use Rattle.sym_model.specs.Polynomial.{Term, Poly, Same, In, nothing, one, plus, negate, times, restrict, pair, join, resize, all_zero, fits_in}
 use Rattle.sym_model.specs.Permutation.{first_ascent}
 use Rattle.sym_model.specs.DividedDifference.{variable, variable_in}
-use Rattle.sym_model.specs.DoubleSchubert.{difference_product}
-use Rattle.sym_model.specs.Schubert.{schubert, schubert_in, schubert_over}
+use Rattle.sym_model.specs.Schubert.{schubert_over}
 use Rattle.sym_model.proofs.Exponents.{resize-nil, resize_zeros, fits_in_zeros, all_zero_zeros, join_zeros, join_comm}
 use Rattle.sym_model.proofs.Polynomials.{pair_ext, pair_in, pair_plus, pair_negate, pair_times, pair_determined, pair_restrict, pair_one, same_from_pair, times_respects, plus_respects, Same_refl, Same_trans, In_one, In_plus, In_times, In_map, In_restrict}
 use Rattle.sym_model.proofs.PolynomialLaws.{times_comm, times_assoc, times-one, restrict-plus, restrict-times, restrict-one, restricted_test}
 use Rattle.sym_model.proofs.Sums.{Among_from_select}
 use Rattle.schubert_laws.specs.Chains.{elementary_in}
-use Rattle.schubert_laws.proofs.AtOrigin.{at_origin, origin_later, one_at_origin}
+use Rattle.schubert_laws.proofs.AtOrigin.{at_origin, origin_later}
 use Rattle.schubert_laws.proofs.DifferenceLaws.{variable_after}
 use Rattle.schubert_laws.proofs.Dominant.{pair_x_to}
-use Rattle.schubert_laws.proofs.Exchanges.{raise, Rises}
+use Rattle.schubert_laws.proofs.Exchanges.{raise}
 use Rattle.schubert_laws.proofs.FixedLetters.{In_descended}
 use Rattle.schubert_laws.proofs.Paths.{over_top}
 use Rattle.schubert_laws.proofs.Pieri.{after_factor, through_factor}
-use Rattle.double_schubert_laws.proofs.Columns.{row_times, below, In_row, In_below, below_all, over_combined, over_same, later_variable, IsState, moved_ext, value_at, x_acts, free_below, free_more, Rising, no_value, IsTame, tame_value, tame_expanded, expanded, expanded_ext, expanded_more, elementary_none, at_zero, with_elementary}
+use Rattle.double_schubert_laws.specs.DiagramRows.{AreWithin, HasLeftAscent}
+use Rattle.double_schubert_laws.proofs.Rows.{row_times, below, In_row, In_below, over_combined, later_variable, IsState, moved_ext, value_at, x_acts, free_below, free_more, no_value, IsTame, tame_value, tame_expanded, expanded, expanded_ext, expanded_more, elementary_none, at_zero, with_elementary}
 use Rattle.double_schubert_laws.proofs.DoubleDominant.{unit, pair_variable_in}
 use Rattle.double_schubert_laws.proofs.InverseSteps.{turned, origin_zeros}
-use Rattle.double_schubert_laws.proofs.Inverses.{pair_x_zero, IsInverse, inverse_at_zero}
+use Rattle.double_schubert_laws.proofs.Inverses.{pair_x_zero}
 
 -- ---- polynomials at x = 0
 
-In_over : (n : ℕ) (g : Poly) (q : List ℕ) → In (n + n) g → In (n + n) (schubert_over g q)
+pub In_over : (n : ℕ) (g : Poly) (q : List ℕ) → In (n + n) g → In (n + n) (schubert_over g q)
 In_over n g q i = In_descended g (n + n) (rising_pairs q) q i
 
 pair_at_zero : (n : ℕ) (g : Poly) (ψ : List ℕ → ℤ) (q : List ℕ) → In (n + n) g → pair (at_zero n g q) ψ ≡ value_at n g ψ q
@@ -109,19 +106,19 @@ turned_none : (k : ℕ) → turned k (pos 0) ≡ pos 0
 turned_none zero = refl
 turned_none (suc k) = turned_none k
 
-column : (n i c : ℕ) (g : Poly) (ψ : List ℕ → ℤ) (q : List ℕ) → In (n + n) g → IsState n q → i < n → c ≤ n
+row_expanded : (n i c : ℕ) (g : Poly) (ψ : List ℕ → ℤ) (q : List ℕ) → In (n + n) g → IsState n q → i < n → c ≤ n
     → value_at n (row_times n i c g) ψ q ≡ expanded c n i (with_elementary n c g ψ) q
-column n i zero g ψ q j s h l =
+row_expanded n i zero g ψ q j s h l =
     sym (pair_at_zero n g ψ q j)
     ∙ sym (pair_determined (times (one n) (at_zero n g q)) (at_zero n g q) ψ
     (Same_trans (times (one n) (at_zero n g q)) (times (at_zero n g q) (one n)) (at_zero n g q) (times_comm (one n) (at_zero n g q)) (times-one n (at_zero n g q) (In_at_zero n g q j))))
-column n i (suc c) g ψ q j s h l =
+row_expanded n i (suc c) g ψ q j s h l =
     let k = In_row n i c g j h (omega arith) in
     let a = minus_acts n i c (row_times n i c g) ψ q in
     let b = x_acts n i (row_times n i c g) ψ q k s h in
-    let d = moved_ext n i (value_at n (row_times n i c g) ψ) (λ v. expanded c n i (with_elementary n c g ψ) v) q s h (λ v t. column n i c g ψ v j t h (omega arith)) in
+    let d = moved_ext n i (value_at n (row_times n i c g) ψ) (λ v. expanded c n i (with_elementary n c g ψ) v) q s h (λ v t. row_expanded n i c g ψ v j t h (omega arith)) in
     let e = y_acts n c (row_times n i c g) ψ q k s (omega arith) in
-    let f = column n i c g (λ β. ψ (raise c β)) q j s h (omega arith) in
+    let f = row_expanded n i c g (λ β. ψ (raise c β)) q j s h (omega arith) in
     let m = expanded_ext c n i (with_elementary n c g (λ β. ψ (raise c β))) (with_more n c g ψ) q s h (λ x v t. more_is n c g ψ x v j (omega arith)) in
     let p = expanded_more c n i (with_elementary n c g ψ) (with_elementary n (suc c) g ψ) (with_more n c g ψ) q s h (λ v t. refl) (λ x v t. one_more_variable n c g ψ x v) in
     let z = ap (turned (suc c)) (none_with n c g ψ q) ∙ turned_none (suc c) in
@@ -129,8 +126,8 @@ column n i (suc c) g ψ q j s h l =
 
 -- ---- in any number of variables y, times a polynomial s
 
-abbrev pub value_of : ℕ → ℕ → Poly → ℕ → (List ℕ → ℤ) → List ℕ → ℤ
-value_of n k s i f q = value_at n (below n i) (restricted_test k (after_factor s f)) q
+abbrev pub value_of : ℕ → ℕ → Poly → List ℕ → ℕ → (List ℕ → ℤ) → List ℕ → ℤ
+value_of n k s rows i f q = value_at n (below n rows i) (restricted_test k (after_factor s f)) q
 
 fits_longer : (m n : ℕ) (α : List ℕ) → length α ≤ n → fits_in m (resize n α) ≡ fits_in m α
 fits_longer m zero [] h = refl
@@ -193,41 +190,32 @@ elementary_moves n k c d s P f h =
     ∙ pair_restrict k P (after_factor s (after_factor (elementary_in d c k) f))
 
 -- the value with an elementary polynomial of d factors among y_1, .., y_c
-abbrev pub column_term : ℕ → ℕ → Poly → ℕ → ℕ → (List ℕ → ℤ) → ℕ → List ℕ → ℤ
-column_term n k s i c f d q = value_of n k s i (after_factor (elementary_in d c k) f) q
+abbrev pub row_term : ℕ → ℕ → Poly → List ℕ → ℕ → ℕ → (List ℕ → ℤ) → ℕ → List ℕ → ℤ
+row_term n k s rows i c f d q = value_of n k s rows i (after_factor (elementary_in d c k) f) q
 
-pub column_step : (n k i : ℕ) (s : Poly) (f : List ℕ → ℤ) (q : List ℕ) → IsState n q → i < n
-    → value_of n k s (suc i) f q ≡ expanded (n - suc i) n i (column_term n k s i (n - suc i) f) q
-column_step n k i s f q t h =
-    let b = In_below n i (omega arith) in
-    column n i (n - suc i) (below n i) (restricted_test k (after_factor s f)) q b t h (omega arith)
-    ∙ expanded_ext (n - suc i) n i (with_elementary n (n - suc i) (below n i) (restricted_test k (after_factor s f))) (column_term n k s i (n - suc i) f) q t h (λ d v u.
-    elementary_moves n k (n - suc i) d s (at_zero n (below n i) v) f (omega arith)
-    ∙ pair_at_zero n (below n i) (restricted_test k (after_factor s (after_factor (elementary_in d (n - suc i) k) f))) v b)
+pub row_step : (n k : ℕ) (rows : List ℕ) (i : ℕ) (s : Poly) (f : List ℕ → ℤ) (q : List ℕ) → AreWithin n rows → IsState n q → i < n
+    → value_of n k s rows (suc i) f q ≡ expanded (get_or rows i 0) n i (row_term n k s rows i (get_or rows i 0) f) q
+row_step n k rows i s f q w t h =
+    let b = In_below n rows i w (omega arith) in
+    row_expanded n i (get_or rows i 0) (below n rows i) (restricted_test k (after_factor s f)) q b t h (w.at i)
+    ∙ expanded_ext (get_or rows i 0) n i (with_elementary n (get_or rows i 0) (below n rows i) (restricted_test k (after_factor s f))) (row_term n k s rows i (get_or rows i 0) f) q t h (λ d v u.
+    elementary_moves n k (get_or rows i 0) d s (at_zero n (below n rows i) v) f (w.at i)
+    ∙ pair_at_zero n (below n rows i) (restricted_test k (after_factor s (after_factor (elementary_in d (get_or rows i 0) k) f))) v b)
 
-pub column_none : (n k i : ℕ) (s : Poly) (f : List ℕ → ℤ) (q : List ℕ) → i ≤ n → IsState n q → Rising (n - i) q → value_of n k s i f q ≡ pos 0
-column_none n k i s f q h t r = no_value n i (below n i) (restricted_test k (after_factor s f)) q h (free_below n i h) t r
+pub row_none : (n k : ℕ) (rows : List ℕ) (i : ℕ) (s : Poly) (f : List ℕ → ℤ) (q : List ℕ) → AreWithin n rows → i ≤ n → IsState n q → HasLeftAscent (n - i) q
+    → value_of n k s rows i f q ≡ pos 0
+row_none n k rows i s f q w h t r = no_value n i (below n rows i) (restricted_test k (after_factor s f)) q h (free_below n rows i w h) t r
 
-pub column_tame : (n k i c e : ℕ) (s : Poly) (f : List ℕ → ℤ) → i < n → IsTame n i (expanded e n i (column_term n k s i c f))
-column_tame n k i c e s f h =
-    tame_expanded e n i (column_term n k s i c f) h (λ d.
-    tame_value n i (below n i) (restricted_test k (after_factor s (after_factor (elementary_in d c k) f))) (In_below n i (omega arith)) h
-    (free_more n i (below n i) (free_below n i (omega arith))))
+pub row_tame : (n k : ℕ) (rows : List ℕ) (i c e : ℕ) (s : Poly) (f : List ℕ → ℤ) → AreWithin n rows → i < n → IsTame n i (expanded e n i (row_term n k s rows i c f))
+row_tame n k rows i c e s f w h =
+    tame_expanded e n i (row_term n k s rows i c f) h (λ d.
+    tame_value n i (below n rows i) (restricted_test k (after_factor s (after_factor (elementary_in d c k) f))) (In_below n rows i w (omega arith)) h
+    (free_more n i (below n rows i) (free_below n rows i w (omega arith))))
 
-pub column_start_none : (n k j : ℕ) (s : Poly) (f : List ℕ → ℤ) (q : List ℕ) → Rises j q → value_of n k s 0 f q ≡ pos 0
-column_start_none n k j s f q r = one_at_origin (n + n) j q (at_origin n (restricted_test k (after_factor s f))) r
-
-pub column_start : (n k : ℕ) (s : Poly) (f : List ℕ → ℤ) (q : List ℕ) → In k s → first_ascent q ≡ None → value_of n k s 0 f q ≡ pair s f
-column_start n k s f q i e =
+pub row_start : (n k : ℕ) (rows : List ℕ) (s : Poly) (f : List ℕ → ℤ) (q : List ℕ) → In k s → first_ascent q ≡ None → value_of n k s rows 0 f q ≡ pair s f
+row_start n k rows s f q i e =
     ap (λ u. pair u (at_origin n (restricted_test k (after_factor s f)))) (over_top (one (n + n)) (rising_pairs q) q e)
     ∙ pair_one (n + n) (at_origin n (restricted_test k (after_factor s f)))
     ∙ origin_zeros n n (restricted_test k (after_factor s f))
     ∙ ap₂ (λ t β. cond t (after_factor s f β) (pos 0)) (fits_in_zeros k n) (resize_zeros k n)
     ∙ pair_in k s (λ α. f (join α (replicate k 0))) f i (λ α l. ap f (join_comm α (replicate k 0) ∙ join_zeros k α (omega arith)))
-
-pub column_end : (k : ℕ) (s : Poly) (f : List ℕ → ℤ) (p v : List ℕ) → IsInverse p v
-    → value_of (length v) k s (length v) f p ≡ turned (inversions v) (pair (times s (schubert_in v k)) f)
-column_end k s f p v t =
-    over_same (below (length v) (length v)) (difference_product (length v) (length v)) p (at_origin (length v) (restricted_test k (after_factor s f))) (below_all (length v))
-    ∙ inverse_at_zero p v (restricted_test k (after_factor s f)) t
-    ∙ ap (turned (inversions v)) (sym (pair_restrict k (schubert v) (after_factor s f)) ∙ sym (through_factor s (schubert_in v k) f))
