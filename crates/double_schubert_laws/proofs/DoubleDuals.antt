@@ -7,7 +7,7 @@ use Rattle.std.proofs.lemmas.Bool.{cases_Bool, and_parts}
 use Rattle.std.proofs.lemmas.List.{take-append-drop, length-replicate, length-map}
 use lib.IntN.{*ℤ-zero}
 use Rattle.sym_model.specs.Sum.{Among}
-use Rattle.sym_model.specs.Polynomial.{Poly, Term, pair, same, join, times, one, negate, all_zero, resize, fits_in}
+use Rattle.sym_model.specs.Polynomial.{Poly, Term, pair, same, join, one, negate, all_zero, resize, fits_in}
 use Rattle.sym_model.specs.Partition.{size, after, Falls}
 use Rattle.sym_model.specs.Alternant.{staircase}
 use Rattle.sym_model.specs.BetaList.{rising_pairs}

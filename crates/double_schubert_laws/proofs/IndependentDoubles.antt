@@ -1,7 +1,7 @@
 -- The products y^β·S_w(x; y), for permutations w of at most n letters and exponent lists β of at most n places, are
 -- linearly independent in n variables x and n variables y.
-use Rattle.std.proofs.Common.{◌≡◌, ◌⊎◌, ℕ, zero, suc, ◌+◌, ◌-◌, ◌≤◌, ◌&&◌, cond, List, [], ◌∷◌, ◌++◌, length, take}
-use Rattle.std.proofs.Common.{drop, replicate, refl, sym, ap, ap₂, ◌∙◌, inl, inr, arith, ℤ, pos, length-append}
+use Rattle.std.proofs.Common.{◌≡◌, ◌⊎◌, ℕ, suc, ◌+◌, ◌-◌, ◌≤◌, ◌&&◌, cond, List, ◌++◌, length, take}
+use Rattle.std.proofs.Common.{drop, replicate, sym, ap, ap₂, ◌∙◌, inl, inr, arith, ℤ, pos, length-append}
 use Rattle.std.proofs.lemmas.Bool.{cases_lt}
 use Rattle.std.proofs.lemmas.List.{take-append-drop}
 use Rattle.sym_model.specs.Polynomial.{Poly, In, pair, same, join, one, resize, fits_in, no_exponents}

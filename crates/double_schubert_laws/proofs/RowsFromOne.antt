@@ -2,11 +2,11 @@
 --     covers_at         Monk's sum of a function G over covers, by places, is the sum of G over lists of covers
 --     pair_times_rows   `times_rows` is the polynomial whose pairings are the values of RowSteps
 --     pair_one_row      `one_row` is the polynomial whose pairings are the expanded values
-use Rattle.std.proofs.Common.{◌≡◌, ℕ, zero, suc, ◌+◌, ◌-◌, ◌<◌, ◌≤◌, ◌==◌, List, [], ◌∷◌, length, get_or, map, take, flat_map, refl, sym, ◌∙◌, ap, ap₂, subst, arith, inl, inr, cond, nat_lt, None, ℤ, pos, ◌+ℤ◌, ◌-ℤ◌, ◌*ℤ◌, neg_ℤ}
+use Rattle.std.proofs.Common.{◌≡◌, ℕ, zero, suc, ◌+◌, ◌-◌, ◌<◌, ◌≤◌, ◌==◌, List, [], ◌∷◌, length, get_or, map, take, flat_map, refl, sym, ◌∙◌, ap, ap₂, subst, arith, inl, inr, cond, nat_lt, None, ℤ, pos, ◌-ℤ◌}
 use Rattle.std.specs.List.{swap}
 use Rattle.std.proofs.lemmas.Int.{ints}
 use Rattle.std.proofs.lemmas.Bool.{cases_lt}
-use Rattle.std.proofs.lemmas.List.{get_or-take, get_or_past, length-take, take_all}
+use Rattle.std.proofs.lemmas.List.{get_or-take, get_or_past, length-take}
 use Rattle.sym_model.specs.Sum.{total, Once}
 use Rattle.sym_model.specs.Partition.{Falls, after, cells}
 use Rattle.sym_model.specs.PlaceOrders.{inversions, minus_one_to, sign}
@@ -26,7 +26,6 @@ use Rattle.schubert_laws.specs.PathCovers.{covers_after, covers_before}
 use Rattle.schubert_laws.proofs.AtOrigin.{at_origin}
 use Rattle.schubert_laws.proofs.ChainLetters.{cover_test}
 use Rattle.schubert_laws.proofs.ChainSums.{if_less, if_not_less, later_term, monk_part, part_some}
-use Rattle.schubert_laws.proofs.Codes.{length-code}
 use Rattle.schubert_laws.proofs.CoverTests.{letter_at, letter_most, up}
 use Rattle.schubert_laws.proofs.DifferencesFromOne.{divided_respects}
 use Rattle.schubert_laws.proofs.MonkFromOne.{swap_is, sum_after, sum_split}
@@ -35,7 +34,6 @@ use Rattle.schubert_laws.proofs.Pieri.{after_factor, through_factor}
 use Rattle.schubert_laws.proofs.PlaceSums.{sum_below, sum_below_ext}
 use Rattle.double_schubert_laws.specs.AtZero.{at_x_zero}
 use Rattle.double_schubert_laws.specs.DiagramRows.{AreWithin, HasLeftAscent, diagram_product, times_rows, over_covers_of, one_row, LeadsTo}
-use Rattle.double_schubert_laws.proofs.DiagramProducts.{diagram}
 use Rattle.double_schubert_laws.proofs.DoubleDominant.{In_difference_in, pair_cells, dominant_product}
 use Rattle.double_schubert_laws.proofs.DoubleVariables.{any_descent_double}
 use Rattle.double_schubert_laws.proofs.InverseSteps.{turned}
@@ -70,7 +68,6 @@ total_before G q r o h =
 total_after : (G : List ℕ → ℤ) (q : List ℕ) (r : ℕ) → IsOneLine q → r < length q → total G (covers_after (r + 1) q) ≡ sum_below (length q) (later_term (length q) r G q)
 total_after G q r o h =
     let s = sum_split (length q) r (later_term (length q) r G q) h in
-    let t : ℕ → ℤ = λ j. later_term (length q) r G q (j - 1) in
     let none = total_none (λ j. later_term (length q) r G q (j - 1)) (after 0 r) (λ j m. let x = after_among 0 r j m in let x0 = x.0 in let x1 = x.1 in if_not_less r (j - 1) _ (pos 0) (omega arith)) in
     let here : later_term (length q) r G q r ≡ pos 0 = if_not_less r r _ (pos 0) (omega arith) in
     let ups = covers_total G q (λ b. swapped (r + 1) b q) (after (r + 1) (length q - (r + 1))) in
@@ -135,7 +132,6 @@ pub pair_one_row : (e c n k i : ℕ) (F : List ℕ → Poly) (f : List ℕ → �
 pair_one_row zero c n k i F f q j s h =
     pair_in k (F q) f (after_factor (one k) f) (j q) (λ β l. ap f (sym (join_zeros k β (omega arith))) ∙ sym (pair_one k (λ α. f (join α β))))
 pair_one_row (suc e) c n k i F f q j s h =
-    let one : List ℕ → ℤ = λ v. pair (one_row e c (n - i) k F v) f in
     let a = pair_plus (scale (minus_one_to (suc e)) (times (elementary_in (suc e) c k) (F q))) (over_covers_of (n - i) (λ v. one_row e c (n - i) k F v) q) f in
     let b = pair_scale (minus_one_to (suc e)) (times (elementary_in (suc e) c k) (F q)) f
     ∙ sym (turned_is (suc e) (pair (times (elementary_in (suc e) c k) (F q)) f))
@@ -167,7 +163,6 @@ pub next_row : (k i : ℕ) (s : Poly) (rows q : List ℕ) → In k s → IsOneLi
     → Same (times_rows k s (take (i + 1) rows) q) (one_row (get_or rows i 0) (get_or rows i 0) (length q - i) k (times_rows k s (take i rows)) q)
 next_row k i s rows q j o w h =
     let z : i + 1 ≡ suc i = omega arith in
-    let t : IsState (length q) q = record { one_line = o; size = refl } in
     same_from_pair (times_rows k s (take (i + 1) rows) q) (one_row (get_or rows i 0) (get_or rows i 0) (length q - i) k (times_rows k s (take i rows)) q) (λ f.
     ap (λ m. pair (times_rows k s (take m rows) q) f) z
     ∙ pair_times_rows (length q) k rows (suc i) s f q w h refl
@@ -197,14 +192,13 @@ path_start μ p e =
 
 pub path_step : (μ p w : List ℕ) (i : ℕ) → LeadsTo μ p w → IsDescent p i → IsDescent w i → LeadsTo μ (exchanged i p) (exchanged i w)
 path_step μ p w i t d e =
-    let g : Poly = double_schubert μ (length μ) in
     Same_trans (schubert_over (double_schubert μ (length μ)) (exchanged i p)) (divided_difference i (schubert_over (double_schubert μ (length μ)) p)) (double_schubert (exchanged i w) (length μ))
     (Same_sym (divided_difference i (schubert_over (double_schubert μ (length μ)) p)) (schubert_over (double_schubert μ (length μ)) (exchanged i p)) (any_descent (double_schubert μ (length μ)) p i d))
     (Same_trans (divided_difference i (schubert_over (double_schubert μ (length μ)) p)) (divided_difference i (double_schubert w (length μ))) (double_schubert (exchanged i w) (length μ))
     (divided_respects i (schubert_over (double_schubert μ (length μ)) p) (double_schubert w (length μ)) t)
     (any_descent_double w (length μ) i e))
 
--- all rows: a permutation of n letters at each place
+-- all rows of the code of μ, where exchanges at common descents lead from μ to the inverse w of v
 all_rows : (n k : ℕ) (s : Poly) (f : List ℕ → ℤ) (μ p v w : List ℕ) → length μ ≡ n → Once μ → Falls (code μ) → IsOneLine v → IsOneLine w → AreInverse v w → length w ≡ n → length p ≡ n → LeadsTo μ p w
     → pair (times_rows k s (code μ) p) f ≡ turned (inversions v) (pair (times s (schubert_in v k)) f)
 all_rows n k s f μ p v w m o c x y a l q t =
