@@ -14,3 +14,4 @@ pub mod Inverses
 pub mod Rows
 pub mod RowSteps
 pub mod RowsFromOne
+pub mod KeptChains

@@ -13,16 +13,20 @@
 //! its sign, the Schubert polynomial of the inverse permutation in the variables y.
 //! `diagram_rows_law`: the product of a polynomial and a Schubert polynomial, by products with
 //! elementary polynomials and Monk's rule for the divided differences of a product of x_i - y_j.
+//! `fixed_letters_law`: covers, and Sottile's Pieri formula, for permutations that are written
+//! without fixed letters at the end.
 #![tactic(auto)]
 
 mod double_laws;
 mod independence;
 mod inverse_laws;
+mod letter_laws;
 mod row_laws;
 mod rule_laws;
 
 pub use double_laws::double_schubert_law;
 pub use independence::double_schubert_independence_law;
 pub use inverse_laws::double_at_zero_law;
+pub use letter_laws::fixed_letters_law;
 pub use row_laws::diagram_rows_law;
 pub use rule_laws::double_monk_law;

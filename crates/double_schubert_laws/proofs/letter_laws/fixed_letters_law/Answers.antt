@@ -1,0 +1,14 @@
+use Rattle.double_schubert_laws.proofs.KeptChains.{before_kept, after_kept, place_kept, pieri_kept}
+use Rattle.double_schubert_laws.proofs.letter_laws.fixed_letters_law.Goals as goal
+
+pub returns-clause-before : goal.returns-clause-before
+returns-clause-before c = before_kept
+
+pub returns-clause-after : goal.returns-clause-after
+returns-clause-after c = after_kept
+
+pub returns-clause-place : goal.returns-clause-place
+returns-clause-place c = place_kept
+
+pub returns-clause-pieri : goal.returns-clause-pieri
+returns-clause-pieri c = pieri_kept

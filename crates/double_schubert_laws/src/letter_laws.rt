@@ -1,0 +1,35 @@
+//! Covers and chains of permutations that are written without fixed letters at the end.
+
+ghost use Rattle.std.specs.Prelude.{◌≡◌, ℕ, ◌-◌, ◌<◌, ◌≤◌, max, List, map, length};
+ghost use Rattle.sym_model.specs.Partition.{after};
+ghost use Rattle.sym_model.specs.Permutation.{covers_among, covers_down, times_swap, with_fixed};
+ghost use Rattle.sym_model.specs.Polynomial.{Same, times};
+ghost use Rattle.sym_model.specs.Schubert.{schubert_in, schuberts_in};
+ghost use Rattle.schubert_laws.specs.Chains.{elementary_in, letters_before};
+ghost use Rattle.schubert_laws.specs.PathCovers.{covers_after, covers_before};
+ghost use Rattle.schubert_laws.specs.ShortPermutations.{IsShort};
+ghost use Rattle.double_schubert_laws.specs.KeptChains.{kept_chains};
+
+/// Permutations may be written without fixed letters at the end: letters equal to their places. With
+/// fixed letters added up to N letters, the covers at a place are the same (`before`, `after`), and a
+/// letter stands at the same place for all numbers of letters that include it (`place`).
+///
+/// Sottile's Pieri formula for them: e_d(x_1, .., x_k)·S_w is the sum of S_v over the chains of d
+/// covers w → w·t_ab → .. → v with a ≤ k < b in each cover, in which the greater letters of the
+/// exchanged pairs decrease strictly. The permutations of the chains have N letters, for any N
+/// greater than k and the number of letters of w (`pieri`).
+///
+/// Example: in 3 letters the only cover of 2 1 at place 2 that exchanges it with a later place is 2
+/// 3 1; 2 1 is 2 1 3 there.
+pub fn fixed_letters_law()
+    ensures before { (r n : ℕ) (w : List ℕ) → IsShort n w → 1 ≤ r → r ≤ n
+        → covers_before r (with_fixed n w) ≡ map (with_fixed n) (covers_down r w) }
+    ensures after { (r n : ℕ) (w : List ℕ) → IsShort n w → 1 ≤ r → r ≤ n
+        → covers_after r (with_fixed n w)
+        ≡ map (with_fixed n) (covers_among w (map (λ b. times_swap r b w) (after r (n - r)))) }
+    ensures place { (a m n : ℕ) (w : List ℕ) → IsShort m w → m ≤ n → 1 ≤ a → a ≤ m
+        → letters_before a (with_fixed n w) ≡ letters_before a (with_fixed m w) }
+    ensures pieri { (d k m n : ℕ) (w : List ℕ) → IsShort n w → max (length w) k < n
+        → Same (times (elementary_in d k m) (schubert_in w m))
+        (schuberts_in (kept_chains n d k n w) m) }
+{}
