@@ -2,7 +2,8 @@
 --     covers_at         Monk's sum of a function G over covers, by places, is the sum of G over lists of covers
 --     pair_times_rows   `times_rows` is the polynomial whose pairings are the values of RowSteps
 --     pair_one_row      `one_row` is the polynomial whose pairings are the expanded values
-use Rattle.std.proofs.Common.{◌≡◌, ℕ, zero, suc, ◌+◌, ◌-◌, ◌<◌, ◌≤◌, ◌==◌, List, [], ◌∷◌, length, get_or, map, take, flat_map, refl, sym, ◌∙◌, ap, ap₂, subst, arith, inl, inr, cond, nat_lt, None, ℤ, pos, ◌-ℤ◌}
+--     pair_next_power   the pairings of `one_row` with one power more of the variable
+use Rattle.std.proofs.Common.{◌≡◌, ◌⊎◌, ℕ, zero, suc, ◌+◌, ◌-◌, ◌<◌, ◌≤◌, ◌==◌, List, [], ◌∷◌, length, get_or, map, take, flat_map, refl, sym, ◌∙◌, ap, ap₂, subst, arith, inl, inr, cond, nat_lt, None, Some, ℤ, pos, ◌+ℤ◌, ◌-ℤ◌, ◌*ℤ◌}
 use Rattle.std.specs.List.{swap}
 use Rattle.std.proofs.lemmas.Int.{ints}
 use Rattle.std.proofs.lemmas.Bool.{cases_lt}
@@ -23,11 +24,12 @@ use Rattle.sym_model.proofs.PolynomialLaws.{restricted_test}
 use Rattle.sym_model.proofs.Sums.{total_among, total_map, total_none, total_select}
 use Rattle.schubert_laws.specs.Chains.{letters_before, elementary_in}
 use Rattle.schubert_laws.specs.PathCovers.{covers_after, covers_before}
-use Rattle.schubert_laws.proofs.AtOrigin.{at_origin}
+use Rattle.schubert_laws.proofs.AtOrigin.{at_origin, one_at_origin}
 use Rattle.schubert_laws.proofs.ChainLetters.{cover_test}
 use Rattle.schubert_laws.proofs.ChainSums.{if_less, if_not_less, later_term, monk_part, part_some}
 use Rattle.schubert_laws.proofs.CoverTests.{letter_at, letter_most, up}
 use Rattle.schubert_laws.proofs.DifferencesFromOne.{divided_respects}
+use Rattle.schubert_laws.proofs.Exchanges.{Rises, IsFirstAscent, first_ascent_cases}
 use Rattle.schubert_laws.proofs.MonkFromOne.{swap_is, sum_after, sum_split}
 use Rattle.schubert_laws.proofs.Paths.{over_top, any_descent}
 use Rattle.schubert_laws.proofs.Pieri.{after_factor, through_factor}
@@ -127,19 +129,27 @@ In_times_rows k s rows q i =
 
 -- ---- one row more
 
+pub pair_next_power : (e c m k : ℕ) (F : List ℕ → Poly) (f : List ℕ → ℤ) (q : List ℕ)
+    → pair (one_row (suc e) c m k F q) f
+    ≡ minus_one_to (suc e) *ℤ pair (F q) (after_factor (elementary_in (suc e) c k) f)
+    +ℤ (total (λ v. pair (one_row e c m k F v) f) (covers_before (letters_before m q + 1) q) -ℤ total (λ v. pair (one_row e c m k F v) f) (covers_after (letters_before m q + 1) q))
+pair_next_power e c m k F f q =
+    let a = pair_plus (scale (minus_one_to (suc e)) (times (elementary_in (suc e) c k) (F q))) (over_covers_of m (λ v. one_row e c m k F v) q) f in
+    let b = pair_scale (minus_one_to (suc e)) (times (elementary_in (suc e) c k) (F q)) f
+    ∙ ap (λ z. minus_one_to (suc e) *ℤ z) (through_factor (elementary_in (suc e) c k) (F q) f) in
+    let d = pair_plus (flat_map (λ v. one_row e c m k F v) (covers_before (letters_before m q + 1) q)) (negate (flat_map (λ v. one_row e c m k F v) (covers_after (letters_before m q + 1) q))) f in
+    let g = pair_each (λ v. one_row e c m k F v) (covers_before (letters_before m q + 1) q) f in
+    let n = pair_negate (flat_map (λ v. one_row e c m k F v) (covers_after (letters_before m q + 1) q)) f in
+    let o = pair_each (λ v. one_row e c m k F v) (covers_after (letters_before m q + 1) q) f in
+    omega (arith, ints)
+
 pub pair_one_row : (e c n k i : ℕ) (F : List ℕ → Poly) (f : List ℕ → ℤ) (q : List ℕ) → ((v : List ℕ) → In k (F v)) → IsState n q → i < n
     → pair (one_row e c (n - i) k F q) f ≡ expanded e n i (λ d v. pair (F v) (after_factor (elementary_in d c k) f)) q
 pair_one_row zero c n k i F f q j s h =
     pair_in k (F q) f (after_factor (one k) f) (j q) (λ β l. ap f (sym (join_zeros k β (omega arith))) ∙ sym (pair_one k (λ α. f (join α β))))
 pair_one_row (suc e) c n k i F f q j s h =
-    let a = pair_plus (scale (minus_one_to (suc e)) (times (elementary_in (suc e) c k) (F q))) (over_covers_of (n - i) (λ v. one_row e c (n - i) k F v) q) f in
-    let b = pair_scale (minus_one_to (suc e)) (times (elementary_in (suc e) c k) (F q)) f
-    ∙ sym (turned_is (suc e) (pair (times (elementary_in (suc e) c k) (F q)) f))
-    ∙ ap (turned (suc e)) (through_factor (elementary_in (suc e) c k) (F q) f) in
-    let d = pair_plus (flat_map (λ v. one_row e c (n - i) k F v) (covers_before (letters_before (n - i) q + 1) q)) (negate (flat_map (λ v. one_row e c (n - i) k F v) (covers_after (letters_before (n - i) q + 1) q))) f in
-    let g = pair_each (λ v. one_row e c (n - i) k F v) (covers_before (letters_before (n - i) q + 1) q) f in
-    let m = pair_negate (flat_map (λ v. one_row e c (n - i) k F v) (covers_after (letters_before (n - i) q + 1) q)) f in
-    let o = pair_each (λ v. one_row e c (n - i) k F v) (covers_after (letters_before (n - i) q + 1) q) f in
+    let a = pair_next_power e c (n - i) k F f q in
+    let b = sym (turned_is (suc e) (pair (F q) (after_factor (elementary_in (suc e) c k) f))) in
     let x = covers_at n i (λ v. pair (one_row e c (n - i) k F v) f) q s h in
     let y = moved_ext n i (λ v. pair (one_row e c (n - i) k F v) f) (λ v. expanded e n i (λ d v. pair (F v) (after_factor (elementary_in d c k) f)) v) q s h (λ v t. pair_one_row e c n k i F f v j t h) in
     omega (arith, ints)
@@ -158,6 +168,19 @@ rows_start k s q i e =
   where
     none : AreWithin (length q) []
     none = record { at = λ i. omega arith }
+
+pub rows_start_none : (k j : ℕ) (s : Poly) (q : List ℕ) → first_ascent q ≡ Some j → Same (times_rows k s [] q) nothing
+rows_start_none k j s q e =
+    same_from_pair (times_rows k s [] q) nothing (λ f.
+    pair_at_q (length q) k s (one (length q + length q)) f q (In_one (length q + length q))
+    ∙ by (first_ascent_cases q) (at_origin (length q) (restricted_test k (after_factor s f))))
+  where
+    apart : Some j ≡ None → ⊥
+    apart h = cc
+
+    by : ((i : ℕ) × IsFirstAscent q i) ⊎ ((first_ascent q ≡ None) × ((i : ℕ) → Rises i q → ⊥)) → (φ : List ℕ → ℤ) → pair (schubert_over (one (length q + length q)) q) φ ≡ pos 0
+    by (inl found) φ = one_at_origin (length q + length q) found.0 q φ found.1.rises
+    by (inr none) φ = absurd (apart (sym e ∙ none.0))
 
 pub next_row : (k i : ℕ) (s : Poly) (rows q : List ℕ) → In k s → IsOneLine q → AreWithin (length q) rows → i < length q
     → Same (times_rows k s (take (i + 1) rows) q) (one_row (get_or rows i 0) (get_or rows i 0) (length q - i) k (times_rows k s (take i rows)) q)

@@ -10,17 +10,17 @@ ghost use Rattle.schubert_laws.specs.PathCovers.{covers_after, covers_before};
 ghost use Rattle.schubert_laws.specs.ShortPermutations.{IsShort};
 ghost use Rattle.double_schubert_laws.specs.KeptChains.{kept_chains};
 
-/// Permutations may be written without fixed letters at the end: letters equal to their places. With
-/// fixed letters added up to N letters, the covers at a place are the same (`before`, `after`), and a
-/// letter stands at the same place for all numbers of letters that include it (`place`).
+/// Permutations may be written without fixed letters at the end, which are equal to their places.
+/// If such letters are added, up to n letters, the covers at a place are the same (`before`,
+/// `after`), and the place of a letter does not depend on n (`place`).
 ///
-/// Sottile's Pieri formula for them: e_d(x_1, .., x_k)·S_w is the sum of S_v over the chains of d
-/// covers w → w·t_ab → .. → v with a ≤ k < b in each cover, in which the greater letters of the
-/// exchanged pairs decrease strictly. The permutations of the chains have N letters, for any N
-/// greater than k and the number of letters of w (`pieri`).
+/// Sottile's Pieri formula: e_d(x_1, .., x_k)·S_w is the sum of S_v over the chains of d covers w →
+/// w·t_ab → .. → v with a ≤ k < b in each cover, in which the greater letters of the exchanged
+/// pairs decrease strictly. Here each permutation of a chain is written without fixed letters at
+/// the end, and b is at most n, for any n greater than k and the number of letters of w (`pieri`).
 ///
-/// Example: in 3 letters the only cover of 2 1 at place 2 that exchanges it with a later place is 2
-/// 3 1; 2 1 is 2 1 3 there.
+/// Example: for n = 3, the only cover of 2 1 that exchanges the letter at place 2 with a later one
+/// is 2 3 1.
 pub fn fixed_letters_law()
     ensures before { (r n : ℕ) (w : List ℕ) → IsShort n w → 1 ≤ r → r ≤ n
         → covers_before r (with_fixed n w) ≡ map (with_fixed n) (covers_down r w) }

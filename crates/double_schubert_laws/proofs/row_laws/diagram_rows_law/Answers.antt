@@ -1,8 +1,11 @@
-use Rattle.double_schubert_laws.proofs.RowsFromOne.{rows_start, next_row, rows_none, row_within, path_start, path_step, rows_end}
+use Rattle.double_schubert_laws.proofs.RowsFromOne.{rows_start, rows_start_none, next_row, rows_none, row_within, path_start, path_step, rows_end}
 use Rattle.double_schubert_laws.proofs.row_laws.diagram_rows_law.Goals as goal
 
 pub returns-clause-start : goal.returns-clause-start
 returns-clause-start c = rows_start
+
+pub returns-clause-start_none : goal.returns-clause-start_none
+returns-clause-start_none c = rows_start_none
 
 pub returns-clause-row : goal.returns-clause-row
 returns-clause-row c = next_row
