@@ -237,7 +237,7 @@ pair_cells m cs φ h b =
         let y : get_or γ (a + 1 - 1) 0 - 0 ≡ c = omega arith in
         ap₂ ◌∷◌ y (parts_after γ (a + 1) β (λ i. let d : a + 1 + i ≡ a + suc i = omega arith in ap (λ k. get_or γ k 0) d ∙ e (suc i)))
 
-entry_small : (w : List ℕ) (i : ℕ) → get_or (code w) i 0 ≤ length w
+pub entry_small : (w : List ℕ) (i : ℕ) → get_or (code w) i 0 ≤ length w
 entry_small [] i = omega arith
 entry_small (a ∷ w) zero = let s = (code_is_code (a ∷ w)).0 in let l = length-code w in omega arith
 entry_small (a ∷ w) (suc i) = let r = entry_small w i in omega arith

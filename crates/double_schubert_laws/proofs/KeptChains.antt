@@ -1,10 +1,12 @@
 -- Covers and chains of permutations w that are written without fixed letters at the end, from those of w with fixed letters added up to N letters.
 --     swap_short        an exchange of two letters, with N letters and without fixed letters at the end
 --     before_kept, ..   the clauses of `fixed_letters_law`
-use Rattle.std.proofs.Common.{◌≡◌, ℕ, zero, suc, ◌+◌, ◌-◌, ◌<◌, ◌≤◌, ◌==◌, max, Bool, true, false, List, [], ◌∷◌, ◌++◌, length, map, flat_map, refl, sym, ◌∙◌, ap, ap₂, subst, arith, inl, inr, cond, ℤ, ◌+ℤ◌, length-append, append_assoc}
+--     lifted_less       a cover of a chain makes one of the first k letters greater than all that the chain still exchanges
+use Rattle.std.proofs.Common.{◌≡◌, ◌⊎◌, ℕ, zero, suc, ◌+◌, ◌-◌, ◌<◌, ◌≤◌, ◌==◌, max, Bool, true, false, List, [], ◌∷◌, ◌++◌, length, map, flat_map, refl, sym, ◌∙◌, ap, ap₂, subst, arith, inl, inr, cond, nat_lt, take, filter, ℤ, ◌+ℤ◌, length-append, append_assoc}
 use Rattle.std.specs.List.{swap}
 use Rattle.std.proofs.Math.ListN.{get_or-append}
-use Rattle.std.proofs.lemmas.Bool.{cases_lt, lt-ltb, le-ltb}
+use Rattle.std.proofs.lemmas.Bool.{cases_eq, cases_lt, lt-ltb, le-ltb}
+use Rattle.std.proofs.lemmas.List.Filters.{length-filter_more}
 use Rattle.sym_model.specs.Sum.{total, Among}
 use Rattle.sym_model.specs.Partition.{after}
 use Rattle.sym_model.specs.PlaceOrders.{inversions, places}
@@ -17,9 +19,10 @@ use Rattle.sym_model.proofs.Sums.{Among_from_map, Among_from_select, total_among
 use Rattle.schubert_laws.specs.Chains.{letters_before, lifted, chains_from, elementary_in}
 use Rattle.schubert_laws.specs.PathCovers.{covers_after, covers_before}
 use Rattle.schubert_laws.specs.ShortPermutations.{IsShort}
-use Rattle.schubert_laws.proofs.ChainLetters.{pieri_sum}
+use Rattle.schubert_laws.proofs.ChainLetters.{cover_test, pieri_sum}
 use Rattle.schubert_laws.proofs.ChainSums.{letter_there, place_below, place_is}
-use Rattle.schubert_laws.proofs.CoverTests.{letter_at}
+use Rattle.schubert_laws.proofs.CoverRelations.{Exchanged}
+use Rattle.schubert_laws.proofs.CoverTests.{letter_at, covers_only_if, exchanged_at}
 use Rattle.schubert_laws.proofs.FixedTails.{one_line_added, one_line_kept, inversions_added, inversions_kept, kept_added, schubert_added}
 use Rattle.schubert_laws.proofs.IndependentSchuberts.{length-with_fixed}
 use Rattle.schubert_laws.proofs.LowerPermutations.{kept_whole}
@@ -27,7 +30,7 @@ use Rattle.schubert_laws.proofs.MonkFromOne.{swap_is, one_line_swap}
 use Rattle.schubert_laws.proofs.Pieri.{paired}
 use Rattle.schubert_laws.proofs.Swaps.{swap_at, length-swap_at}
 use Rattle.schubert_laws.proofs.TransitionFromOne.{times_swap_kept, kept_swap}
-use Rattle.double_schubert_laws.specs.KeptChains.{kept_lifted, kept_chains}
+use Rattle.double_schubert_laws.specs.KeptChains.{kept_lifted, kept_chains, less_among}
 
 -- ---- exchanges
 
@@ -234,3 +237,103 @@ pub pieri_kept : (d k n N : ℕ) (w : List ℕ) → IsShort N w → max (length 
 pieri_kept d k n N w s h =
     same_from_pair (times (elementary_in d k n) (schubert_in w n)) (schuberts_in (kept_chains N d k N w) n) (λ f.
     sym (pieri_short d k n N w f s h) ∙ sym (pair_each (λ v. schubert_in v n) (kept_chains N d k N w) f))
+
+-- ---- chains that do not go on: each cover of a chain needs another one of the first k letters
+
+fewer_less : (m : ℕ) (xs : List ℕ) → length (filter (λ a. nat_lt a m) xs) ≤ length (filter (λ a. nat_lt a (suc m)) xs)
+fewer_less m [] = omega arith
+fewer_less m (a ∷ xs) = by (cases_lt a m) (cases_lt a (suc m)) (fewer_less m xs)
+  where
+    by : (a < m) ⊎ (m ≤ a) → (a < suc m) ⊎ (suc m ≤ a) → length (filter (λ a. nat_lt a m) xs) ≤ length (filter (λ a. nat_lt a (suc m)) xs)
+        → length (filter (λ a. nat_lt a m) (a ∷ xs)) ≤ length (filter (λ a. nat_lt a (suc m)) (a ∷ xs))
+    by (inl f) (inl g) r =
+        let x = ap (λ t. length (cond t (a ∷ filter (λ a. nat_lt a m) xs) (filter (λ a. nat_lt a m) xs))) (lt-ltb a m f) in
+        let y = ap (λ t. length (cond t (a ∷ filter (λ a. nat_lt a (suc m)) xs) (filter (λ a. nat_lt a (suc m)) xs))) (lt-ltb a (suc m) g) in
+        omega arith
+    by (inl f) (inr g) r = absurd (omega arith)
+    by (inr f) (inl g) r =
+        let x = ap (λ t. length (cond t (a ∷ filter (λ a. nat_lt a m) xs) (filter (λ a. nat_lt a m) xs))) (le-ltb a m f) in
+        let y = ap (λ t. length (cond t (a ∷ filter (λ a. nat_lt a (suc m)) xs) (filter (λ a. nat_lt a (suc m)) xs))) (lt-ltb a (suc m) g) in
+        omega arith
+    by (inr f) (inr g) r =
+        let x = ap (λ t. length (cond t (a ∷ filter (λ a. nat_lt a m) xs) (filter (λ a. nat_lt a m) xs))) (le-ltb a m f) in
+        let y = ap (λ t. length (cond t (a ∷ filter (λ a. nat_lt a (suc m)) xs) (filter (λ a. nat_lt a (suc m)) xs))) (le-ltb a (suc m) g) in
+        omega arith
+
+next_less : (k m : ℕ) (w : List ℕ) → k < length w → less_among (suc k) m w ≡ less_among k m w + cond (nat_lt (letter_at w k) m) 1 0
+next_less k m w h =
+    let e : k + 1 ≡ suc k = omega arith in
+    ap (λ i. length (filter (λ a. nat_lt a m) (take i w))) (sym e) ∙ length-filter_more (λ a. nat_lt a m) w k (suc k) h
+
+same_less : (k m : ℕ) (w v : List ℕ) → k ≤ length w → length v ≡ length w → ((c : ℕ) → c < k → letter_at v c ≡ letter_at w c) → less_among k m v ≡ less_among k m w
+same_less zero m w v h l e = refl
+same_less (suc k) m w v h l e =
+    next_less k m v (omega arith)
+    ∙ ap₂ (λ x y. x + cond (nat_lt y m) 1 0) (same_less k m w v (omega arith) l (λ c i. e c (omega arith))) (e k (omega arith))
+    ∙ sym (next_less k m w (omega arith))
+
+one_less : (k m a b : ℕ) (w v : List ℕ) → Exchanged (letter_at w) a b (letter_at v) → length v ≡ length w → a < k → k ≤ b → k ≤ length w → letter_at w a < m → m ≤ letter_at w b
+    → less_among k m w ≡ suc (less_among k m v)
+one_less zero m a b w v x l h g i p q = absurd (omega arith)
+one_less (suc k) m a b w v x l h g i p q = elim (cases_eq a k) [
+  | inl e ↦
+      let n = next_less k m w (omega arith) in
+      let o = next_less k m v (omega arith) in
+      let s = same_less k m w v (omega arith) l (λ c j. x.2 c (λ y. omega arith) (λ y. omega arith)) in
+      let y = ap (letter_at w) e in
+      let z = ap (letter_at v) e in
+      let x0 = x.0 in
+      let t : cond {A = ℕ} (nat_lt (letter_at w k) m) 1 0 ≡ 1 = ap (λ z. cond {A = ℕ} z 1 0) (lt-ltb (letter_at w k) m (omega arith)) in
+      let u : cond {A = ℕ} (nat_lt (letter_at v k) m) 1 0 ≡ 0 = ap (λ z. cond {A = ℕ} z 1 0) (le-ltb (letter_at v k) m (omega arith)) in
+      omega arith
+  | inr e ↦
+      let n = next_less k m w (omega arith) in
+      let o = next_less k m v (omega arith) in
+      let r = one_less k m a b w v x l (omega (arith, e)) (omega arith) (omega arith) p q in
+      let s = ap (λ y. cond {A = ℕ} (nat_lt y m) 1 0) (x.2 k (λ y. e (sym y)) (λ y. omega arith)) in
+      omega arith
+]
+
+lifted_less : (k m N : ℕ) (w v : List ℕ) → IsShort N w → 1 ≤ m → m ≤ N → Among v (kept_lifted k m N w) → less_among k m (with_fixed N w) ≡ suc (less_among k m (with_fixed N v))
+lifted_less k m N w v s h l i = elim (cases_lt (letters_before m (with_fixed N w)) k) [
+  | inl f ↦ absurd (subst (λ t. Among v (cond t [] (covers_among w (map (λ a. times_swap a (letters_before m (with_fixed N w) + 1) w) (places k))))) (lt-ltb (letters_before m (with_fixed N w)) k f) i)
+  | inr f ↦ from f (subst (λ t. Among v (cond t [] (covers_among w (map (λ a. times_swap a (letters_before m (with_fixed N w) + 1) w) (places k))))) (le-ltb (letters_before m (with_fixed N w)) k f) i)
+]
+  where
+    from : k ≤ letters_before m (with_fixed N w) → Among v (covers_among w (map (λ a. times_swap a (letters_before m (with_fixed N w) + 1) w) (places k)))
+        → less_among k m (with_fixed N w) ≡ suc (less_among k m (with_fixed N v))
+    from f j =
+        let x = Among_from_select (λ u. inversions u == inversions w + 1) v (map (λ a. times_swap a (letters_before m (with_fixed N w) + 1) w) (places k)) j in
+        let y = Among_from_map (λ a. times_swap a (letters_before m (with_fixed N w) + 1) w) v (places k) x.0 in
+        let z = after_among 0 k y.0 y.1 in
+        let z0 = z.0 in
+        let z1 = z.1 in
+        let n = length-with_fixed N w s.short in
+        let o = fixed_one_line N w s in
+        let b = place_below m (with_fixed N w) (fixed_one_line N w s) h (omega arith) in
+        let there = letter_there m (with_fixed N w) (fixed_one_line N w s) h (omega arith) in
+        let t = are_swapped N y.0 (letters_before m (with_fixed N w) + 1) w s (omega arith) (omega arith) (omega arith) in
+        let e : letters_before m (with_fixed N w) + 1 - 1 ≡ letters_before m (with_fixed N w) = omega arith in
+        let at = ap (swap (with_fixed N w) (y.0 - 1)) e ∙ swap_is (with_fixed N w) (y.0 - 1) (letters_before m (with_fixed N w)) (omega arith) b in
+        let same = sym at ∙ t.list ∙ ap (with_fixed N) (sym y.2) in
+        let test = ap₂ (λ c d. c == d + 1) (ap inversions y.2 ∙ t.count ∙ ap (λ c. inversions (swap (with_fixed N w) (y.0 - 1) c)) e) (sym (inversions_added (N - length w) w s.one_line)) in
+        let cover = sym (cover_test (y.0 - 1) (letters_before m (with_fixed N w)) (with_fixed N w) (fixed_one_line N w s) (omega arith) b) ∙ sym test ∙ x.1 in
+        let rises = (covers_only_if (y.0 - 1) (letters_before m (with_fixed N w)) (with_fixed N w) (fixed_one_line N w s) (omega arith) b cover).0 in
+        one_less k m (y.0 - 1) (letters_before m (with_fixed N w)) (with_fixed N w) (with_fixed N v)
+        (subst (λ u. Exchanged (letter_at (with_fixed N w)) (y.0 - 1) (letters_before m (with_fixed N w)) (letter_at u)) same (exchanged_at (y.0 - 1) (letters_before m (with_fixed N w)) (with_fixed N w) (omega arith) b))
+        (ap length (sym same) ∙ length-swap_at (y.0 - 1) (letters_before m (with_fixed N w)) (with_fixed N w))
+        (omega arith) f (omega arith) (omega arith) (omega arith)
+
+each_empty : (F : List ℕ → List (List ℕ)) (xs : List (List ℕ)) → ((x : List ℕ) → Among x xs → F x ≡ []) → flat_map F xs ≡ []
+each_empty F [] e = refl
+each_empty F (x ∷ xs) e = ap₂ (λ a b. a ++ b) (e x (inl refl)) (each_empty F xs (λ y m. e y (inr m)))
+
+pub none_kept : (m d k N : ℕ) (w : List ℕ) → IsShort N w → m ≤ N → less_among k m (with_fixed N w) < d → kept_chains m d k N w ≡ []
+none_kept zero zero k N w s h l = absurd (omega arith)
+none_kept zero (suc d) k N w s h l = refl
+none_kept (suc m) zero k N w s h l = absurd (omega arith)
+none_kept (suc m) (suc d) k N w s h l =
+    ap₂ (λ a b. a ++ b) (none_kept m (suc d) k N w s (omega arith) (let x = fewer_less m (take k (with_fixed N w)) in omega arith))
+    (each_empty (λ v. kept_chains m d k N v) (kept_lifted k (suc m) N w) (λ v i.
+    none_kept m d k N v (lifted_short k (suc m) N w v s (omega arith) h i) (omega arith)
+    (let x = fewer_less m (take k (with_fixed N v)) in let y = lifted_less k (suc m) N w v s (omega arith) h i in omega arith)))

@@ -36,7 +36,7 @@ use Rattle.schubert_laws.proofs.Pieri.{after_factor, through_factor}
 use Rattle.schubert_laws.proofs.PlaceSums.{sum_below, sum_below_ext}
 use Rattle.double_schubert_laws.specs.AtZero.{at_x_zero}
 use Rattle.double_schubert_laws.specs.DiagramRows.{AreWithin, HasLeftAscent, diagram_product, times_rows, over_covers_of, one_row, LeadsTo}
-use Rattle.double_schubert_laws.proofs.DoubleDominant.{In_difference_in, pair_cells, dominant_product}
+use Rattle.double_schubert_laws.proofs.DoubleDominant.{In_difference_in, pair_cells, entry_small, dominant_product}
 use Rattle.double_schubert_laws.proofs.DoubleVariables.{any_descent_double}
 use Rattle.double_schubert_laws.proofs.InverseSteps.{turned}
 use Rattle.double_schubert_laws.proofs.Inverses.{inverse_at_zero, pair_x_zero, turned_is, from_one}
@@ -208,6 +208,9 @@ row_within e c k i s rows q j o w h r =
     ∙ t.none 0 q (record { one_line = o; size = refl }) (subst (λ m. HasLeftAscent (length q - m) q) z r))
 
 -- ---- the path, and all rows
+
+pub code_within : (μ : List ℕ) → AreWithin (length μ) (code μ)
+code_within μ = record { at = entry_small μ }
 
 pub path_start : (μ p : List ℕ) → first_ascent p ≡ None → LeadsTo μ p μ
 path_start μ p e =

@@ -1,6 +1,7 @@
 -- Chains of covers, as in specs/Chains of `schubert_laws`, of permutations that are written without fixed letters at the end. A fixed letter is equal
 -- to its place. Places count from 1.
 use Rattle.std.specs.Prelude.{ℕ, zero, suc, ◌+◌, nat_lt, cond, List, [], ◌∷◌, ◌++◌, map, flat_map}
+use Rattle.std.specs.Prelude.{filter, length, take}
 use Rattle.sym_model.specs.PlaceOrders.{places}
 use Rattle.sym_model.specs.Permutation.{with_fixed, times_swap, covers_among}
 use Rattle.schubert_laws.specs.Chains.{letters_before}
@@ -20,3 +21,7 @@ kept_chains zero (suc d) k N w = []
 kept_chains (suc m) zero k N w = kept_chains m zero k N w
 kept_chains (suc m) (suc d) k N w =
     kept_chains m (suc d) k N w ++ flat_map (λ v. kept_chains m d k N v) (kept_lifted k (suc m) N w)
+
+-- how many of the first k letters of w are less than m
+abbrev pub less_among : ℕ → ℕ → List ℕ → ℕ
+less_among k m w = length (filter (λ a. nat_lt a m) (take k w))

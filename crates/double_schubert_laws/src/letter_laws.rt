@@ -1,6 +1,6 @@
 //! Covers and chains of permutations that are written without fixed letters at the end.
 
-ghost use Rattle.std.specs.Prelude.{◌≡◌, ℕ, ◌-◌, ◌<◌, ◌≤◌, max, List, map, length};
+ghost use Rattle.std.specs.Prelude.{◌≡◌, ℕ, ◌-◌, ◌<◌, ◌≤◌, max, List, [], map, length};
 ghost use Rattle.sym_model.specs.Partition.{after};
 ghost use Rattle.sym_model.specs.Permutation.{covers_among, covers_down, times_swap, with_fixed};
 ghost use Rattle.sym_model.specs.Polynomial.{Same, times};
@@ -8,7 +8,7 @@ ghost use Rattle.sym_model.specs.Schubert.{schubert_in, schuberts_in};
 ghost use Rattle.schubert_laws.specs.Chains.{elementary_in, letters_before};
 ghost use Rattle.schubert_laws.specs.PathCovers.{covers_after, covers_before};
 ghost use Rattle.schubert_laws.specs.ShortPermutations.{IsShort};
-ghost use Rattle.double_schubert_laws.specs.KeptChains.{kept_chains};
+ghost use Rattle.double_schubert_laws.specs.KeptChains.{kept_chains, less_among};
 
 /// Permutations may be written without fixed letters at the end, which are equal to their places.
 /// If such letters are added, up to n letters, the covers at a place are the same (`before`,
@@ -18,6 +18,8 @@ ghost use Rattle.double_schubert_laws.specs.KeptChains.{kept_chains};
 /// w·t_ab → .. → v with a ≤ k < b in each cover, in which the greater letters of the exchanged
 /// pairs decrease strictly. Here each permutation of a chain is written without fixed letters at
 /// the end, and b is at most n, for any n greater than k and the number of letters of w (`pieri`).
+/// There are no chains of d covers whose greater letters are at most a if fewer than d of the first
+/// k letters are less than a (`none`).
 ///
 /// Example: for n = 3, the only cover of 2 1 that exchanges the letter at place 2 with a later one
 /// is 2 3 1.
@@ -32,4 +34,6 @@ pub fn fixed_letters_law()
     ensures pieri { (d k m n : ℕ) (w : List ℕ) → IsShort n w → max (length w) k < n
         → Same (times (elementary_in d k m) (schubert_in w m))
         (schuberts_in (kept_chains n d k n w) m) }
+    ensures none { (a d k n : ℕ) (w : List ℕ) → IsShort n w → a ≤ n
+        → less_among k a (with_fixed n w) < d → kept_chains a d k n w ≡ [] }
 {}

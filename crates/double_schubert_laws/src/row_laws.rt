@@ -25,7 +25,7 @@ ghost use Rattle.double_schubert_laws.specs.DiagramRows.{one_row, times_rows};
 /// (`none_within`).
 ///
 /// Let μ be a permutation whose code falls, so that S(μ; x, y) is the product over all rows of its
-/// code. If exchanges at common descents lead from μ and n, .., 1 to the inverse of v and to a
+/// code, none longer than its number of letters (`within`). If exchanges at common descents lead from μ and n, .., 1 to the inverse of v and to a
 /// permutation p (`path_start`, `path`), then at p, for all rows, `times_rows` is s·S_v, up to the
 /// sign of v (`end`).
 ///
@@ -48,6 +48,7 @@ pub fn diagram_rows_law()
     ensures none_within { (e c k i : ℕ) (s : Poly) (rows q : List ℕ) → In k s → IsOneLine q
         → AreWithin (length q) rows → i < length q → HasLeftAscent (length q - (i + 1)) q
         → Same (one_row e c (length q - i) k (times_rows k s (take i rows)) q) nothing }
+    ensures within { (μ : List ℕ) → AreWithin (length μ) (code μ) }
     ensures path_start { (μ p : List ℕ) → first_ascent p ≡ None → LeadsTo μ p μ }
     ensures path { (μ p w : List ℕ) (i : ℕ) → LeadsTo μ p w → IsDescent p i → IsDescent w i
         → LeadsTo μ (exchanged i p) (exchanged i w) }

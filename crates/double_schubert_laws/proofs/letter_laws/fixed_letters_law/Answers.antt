@@ -1,4 +1,4 @@
-use Rattle.double_schubert_laws.proofs.KeptChains.{before_kept, after_kept, place_kept, pieri_kept}
+use Rattle.double_schubert_laws.proofs.KeptChains.{before_kept, after_kept, place_kept, pieri_kept, none_kept}
 use Rattle.double_schubert_laws.proofs.letter_laws.fixed_letters_law.Goals as goal
 
 pub returns-clause-before : goal.returns-clause-before
@@ -12,3 +12,6 @@ returns-clause-place c = place_kept
 
 pub returns-clause-pieri : goal.returns-clause-pieri
 returns-clause-pieri c = pieri_kept
+
+pub returns-clause-none : goal.returns-clause-none
+returns-clause-none c = none_kept

@@ -1,4 +1,4 @@
-use Rattle.double_schubert_laws.proofs.RowsFromOne.{rows_start, rows_start_none, next_row, rows_none, row_within, path_start, path_step, rows_end}
+use Rattle.double_schubert_laws.proofs.RowsFromOne.{rows_start, rows_start_none, next_row, rows_none, row_within, code_within, path_start, path_step, rows_end}
 use Rattle.double_schubert_laws.proofs.row_laws.diagram_rows_law.Goals as goal
 
 pub returns-clause-start : goal.returns-clause-start
@@ -15,6 +15,9 @@ returns-clause-none c = rows_none
 
 pub returns-clause-none_within : goal.returns-clause-none_within
 returns-clause-none_within c = row_within
+
+pub returns-clause-within : goal.returns-clause-within
+returns-clause-within c = code_within
 
 pub returns-clause-path_start : goal.returns-clause-path_start
 returns-clause-path_start c = path_start
