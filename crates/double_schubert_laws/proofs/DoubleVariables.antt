@@ -33,7 +33,7 @@ use Rattle.std.proofs.Math.Bool.{and-true}
 
 -- ---- the restriction of x_i - y_j from m variables x and m variables y to n variables x and n variables y
 
-resize_again : (n m : ℕ) (α : List ℕ) → length α ≤ m → resize n (resize m α) ≡ resize n α
+pub resize_again : (n m : ℕ) (α : List ℕ) → length α ≤ m → resize n (resize m α) ≡ resize n α
 resize_again n m [] h = ap (resize n) (resize-nil m) ∙ resize_zeros n m ∙ sym (resize-nil n)
 resize_again zero m (a ∷ α) h = refl
 resize_again (suc n) zero (a ∷ α) h = absurd (omega arith)
@@ -43,7 +43,7 @@ fits_nothing : (n : ℕ) → fits_in n [] ≡ true
 fits_nothing zero = refl
 fits_nothing (suc n) = refl
 
-fits_again : (n m : ℕ) (α : List ℕ) → length α ≤ m → fits_in n (resize m α) ≡ fits_in n α
+pub fits_again : (n m : ℕ) (α : List ℕ) → length α ≤ m → fits_in n (resize m α) ≡ fits_in n α
 fits_again n m [] h = ap (fits_in n) (resize-nil m) ∙ fits_in_zeros n m ∙ sym (fits_nothing n)
 fits_again zero zero (a ∷ α) h = absurd (omega arith)
 fits_again zero (suc m) (a ∷ α) h = ap (λ b. (a == 0) && b) (fits_again zero m α (omega arith))

@@ -3,14 +3,14 @@
 --     row_start     no row: the value at n, .., 1 is s
 --     row_none      the value for i is 0 at q if the letters 1, .., n - i do not stand in decreasing order in q
 --     row_tame      this stays so under x_i
-use Rattle.std.proofs.Common.{◌≡◌, ℕ, zero, suc, ◌+◌, ◌-◌, ◌<◌, ◌≤◌, ◌==◌, ◌&&◌, List, [], ◌∷◌, ◌++◌, length, drop, take, get_or, replicate, refl, sym, ◌∙◌, ap, ap₂, arith, cond, None, ℤ, pos, ◌+ℤ◌, ◌-ℤ◌, length-drop}
+use Rattle.std.proofs.Common.{◌≡◌, ℕ, zero, suc, ◌+◌, ◌-◌, ◌<◌, ◌≤◌, List, [], ◌∷◌, ◌++◌, length, drop, take, get_or, replicate, refl, sym, ◌∙◌, ap, ap₂, arith, cond, None, ℤ, pos, ◌+ℤ◌, ◌-ℤ◌, length-drop}
 use Rattle.std.proofs.lemmas.Int.{ints}
 use Rattle.sym_model.specs.BetaList.{rising_pairs}
-use Rattle.sym_model.specs.Polynomial.{Term, Poly, Same, In, nothing, one, plus, negate, times, restrict, pair, join, resize, all_zero, fits_in}
+use Rattle.sym_model.specs.Polynomial.{Term, Poly, Same, In, nothing, one, plus, negate, times, restrict, pair, join, all_zero}
 use Rattle.sym_model.specs.Permutation.{first_ascent}
 use Rattle.sym_model.specs.DividedDifference.{variable, variable_in}
 use Rattle.sym_model.specs.Schubert.{schubert_over}
-use Rattle.sym_model.proofs.Exponents.{resize-nil, resize_zeros, fits_in_zeros, all_zero_zeros, join_zeros, join_comm}
+use Rattle.sym_model.proofs.Exponents.{resize-nil, resize_zeros, fits_in_zeros, join_zeros, join_comm}
 use Rattle.sym_model.proofs.Polynomials.{pair_ext, pair_in, pair_plus, pair_negate, pair_times, pair_determined, pair_restrict, pair_one, same_from_pair, times_respects, plus_respects, Same_refl, Same_trans, In_one, In_plus, In_times, In_map, In_restrict}
 use Rattle.sym_model.proofs.PolynomialLaws.{times_comm, times_assoc, times-one, restrict-plus, restrict-times, restrict-one, restricted_test}
 use Rattle.sym_model.proofs.Sums.{Among_from_select}
@@ -24,7 +24,8 @@ use Rattle.schubert_laws.proofs.Paths.{over_top}
 use Rattle.schubert_laws.proofs.Pieri.{after_factor, through_factor}
 use Rattle.double_schubert_laws.specs.DiagramRows.{AreWithin, HasLeftAscent}
 use Rattle.double_schubert_laws.proofs.Rows.{row_times, below, In_row, In_below, over_combined, later_variable, IsState, moved_ext, value_at, x_acts, free_below, free_more, no_value, IsTame, tame_value, tame_expanded, expanded, expanded_ext, expanded_more, elementary_none, at_zero, with_elementary}
-use Rattle.double_schubert_laws.proofs.DoubleDominant.{unit, pair_variable_in}
+use Rattle.double_schubert_laws.proofs.DoubleDominant.{unit, length-unit, pair_variable_in}
+use Rattle.double_schubert_laws.proofs.DoubleVariables.{fits_again, resize_again}
 use Rattle.double_schubert_laws.proofs.InverseSteps.{turned, origin_zeros}
 use Rattle.double_schubert_laws.proofs.Inverses.{pair_x_zero}
 
@@ -129,25 +130,6 @@ row_expanded n i (suc c) g ψ q j s h l =
 abbrev pub value_of : ℕ → ℕ → Poly → List ℕ → ℕ → (List ℕ → ℤ) → List ℕ → ℤ
 value_of n k s rows i f q = value_at n (below n rows i) (restricted_test k (after_factor s f)) q
 
-fits_longer : (m n : ℕ) (α : List ℕ) → length α ≤ n → fits_in m (resize n α) ≡ fits_in m α
-fits_longer m zero [] h = refl
-fits_longer m zero (a ∷ α) h = absurd (omega arith)
-fits_longer zero (suc n) [] h = ap all_zero (resize-nil (suc n)) ∙ all_zero_zeros (suc n)
-fits_longer zero (suc n) (a ∷ α) h = ap (λ t. (a == 0) && t) (fits_longer zero n α (omega arith))
-fits_longer (suc m) (suc n) [] h = ap (fits_in (suc m)) (resize-nil (suc n)) ∙ fits_in_zeros (suc m) (suc n)
-fits_longer (suc m) (suc n) (a ∷ α) h = fits_longer m n α (omega arith)
-
-resize_longer : (m n : ℕ) (α : List ℕ) → length α ≤ n → resize m (resize n α) ≡ resize m α
-resize_longer zero n α h = refl
-resize_longer (suc m) zero [] h = refl
-resize_longer (suc m) zero (a ∷ α) h = absurd (omega arith)
-resize_longer (suc m) (suc n) [] h = ap (resize (suc m)) (resize-nil (suc n)) ∙ resize_zeros (suc m) (suc n) ∙ sym (resize-nil (suc m))
-resize_longer (suc m) (suc n) (a ∷ α) h = ap (λ β. a ∷ β) (resize_longer m n α (omega arith))
-
-length-variable : (c : ℕ) → length {A = ℕ} (replicate c 0 ++ (1 ∷ [])) ≡ suc c
-length-variable zero = refl
-length-variable (suc c) = ap suc (length-variable c)
-
 restrict_variable : (k c n : ℕ) → c < n → Same (restrict k (variable_in (suc c) n)) (variable_in (suc c) k)
 restrict_variable k c n h =
     let z : suc c - 1 ≡ c = omega arith in
@@ -155,8 +137,8 @@ restrict_variable k c n h =
     pair_restrict k (variable_in (suc c) n) φ
     ∙ pair_variable_in c n (restricted_test k φ) h
     ∙ ap₂ (λ t β. cond t (φ β) (pos 0))
-    (fits_longer k n (replicate c 0 ++ (1 ∷ [])) (let e = length-variable c in omega arith))
-    (resize_longer k n (replicate c 0 ++ (1 ∷ [])) (let e = length-variable c in omega arith))
+    (fits_again k n (replicate c 0 ++ (1 ∷ [])) (let e = length-unit c in omega arith))
+    (resize_again k n (replicate c 0 ++ (1 ∷ [])) (let e = length-unit c in omega arith))
     ∙ sym (pair_restrict k (variable (suc c)) φ ∙ pair_x_to (replicate (suc c - 1) 0 ++ (1 ∷ [])) (restricted_test k φ) ∙ ap (λ i. restricted_test k φ (replicate i 0 ++ (1 ∷ []))) z))
 
 restrict_elementary : (k d c n : ℕ) → c ≤ n → Same (restrict k (elementary_in d c n)) (elementary_in d c k)

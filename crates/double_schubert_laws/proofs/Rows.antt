@@ -274,7 +274,7 @@ no_value n i g ψ q h f s r =
     (same_from_pair (differences_after (length q - suc r.letter) g) nothing (λ φ.
     pair_differences (length q - suc r.letter) g φ ∙ f.none (length q - suc r.letter) (omega arith) (omega arith) φ))
 
--- ---- values that stay 0, at lists with two rising letters, if x_i acts on them any number of times
+-- ---- values that stay 0, at lists with a left ascent, if x_i acts on them any number of times
 
 abbrev pub moved_power : ℕ → ℕ → ℕ → (List ℕ → ℤ) → List ℕ → ℤ
 moved_power zero n i F = F

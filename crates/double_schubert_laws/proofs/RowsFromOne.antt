@@ -7,6 +7,7 @@ use Rattle.std.proofs.Common.{◌≡◌, ◌⊎◌, ℕ, zero, suc, ◌+◌, ◌
 use Rattle.std.specs.List.{swap}
 use Rattle.std.proofs.lemmas.Int.{ints}
 use Rattle.std.proofs.lemmas.Bool.{cases_lt}
+use Rattle.std.proofs.lemmas.Option.{none-some}
 use Rattle.std.proofs.lemmas.List.{get_or-take, get_or_past, length-take}
 use Rattle.sym_model.specs.Sum.{total, Once}
 use Rattle.sym_model.specs.Partition.{Falls, after, cells}
@@ -175,12 +176,9 @@ rows_start_none k j s q e =
     pair_at_q (length q) k s (one (length q + length q)) f q (In_one (length q + length q))
     ∙ by (first_ascent_cases q) (at_origin (length q) (restricted_test k (after_factor s f))))
   where
-    apart : Some j ≡ None → ⊥
-    apart h = cc
-
     by : ((i : ℕ) × IsFirstAscent q i) ⊎ ((first_ascent q ≡ None) × ((i : ℕ) → Rises i q → ⊥)) → (φ : List ℕ → ℤ) → pair (schubert_over (one (length q + length q)) q) φ ≡ pos 0
     by (inl found) φ = one_at_origin (length q + length q) found.0 q φ found.1.rises
-    by (inr none) φ = absurd (apart (sym e ∙ none.0))
+    by (inr none) φ = absurd (none-some j (sym none.0 ∙ e))
 
 pub next_row : (k i : ℕ) (s : Poly) (rows q : List ℕ) → In k s → IsOneLine q → AreWithin (length q) rows → i < length q
     → Same (times_rows k s (take (i + 1) rows) q) (one_row (get_or rows i 0) (get_or rows i 0) (length q - i) k (times_rows k s (take i rows)) q)
@@ -224,7 +222,7 @@ path_step μ p w i t d e =
     (divided_respects i (schubert_over (double_schubert μ (length μ)) p) (double_schubert w (length μ)) t)
     (any_descent_double w (length μ) i e))
 
--- all rows of the code of μ, where exchanges at common descents lead from μ to the inverse w of v
+-- all rows of the code of μ, at p: exchanges at common descents lead from μ and n, .., 1 to the inverse w of v and p
 all_rows : (n k : ℕ) (s : Poly) (f : List ℕ → ℤ) (μ p v w : List ℕ) → length μ ≡ n → Once μ → Falls (code μ) → IsOneLine v → IsOneLine w → AreInverse v w → length w ≡ n → length p ≡ n → LeadsTo μ p w
     → pair (times_rows k s (code μ) p) f ≡ turned (inversions v) (pair (times s (schubert_in v k)) f)
 all_rows n k s f μ p v w m o c x y a l q t =

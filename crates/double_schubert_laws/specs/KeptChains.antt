@@ -22,6 +22,6 @@ kept_chains (suc m) zero k N w = kept_chains m zero k N w
 kept_chains (suc m) (suc d) k N w =
     kept_chains m (suc d) k N w ++ flat_map (λ v. kept_chains m d k N v) (kept_lifted k (suc m) N w)
 
--- how many of the first k letters of w are less than m
+-- the number of letters less than m among the first k letters of w
 abbrev pub less_among : ℕ → ℕ → List ℕ → ℕ
 less_among k m w = length (filter (λ a. nat_lt a m) (take k w))
