@@ -34,7 +34,7 @@ use Rattle.double_schubert_laws.specs.KeptChains.{kept_lifted, kept_chains, less
 
 -- ---- exchanges
 
-fixed_one_line : (N : ℕ) (w : List ℕ) → IsShort N w → IsOneLine (with_fixed N w)
+pub fixed_one_line : (N : ℕ) (w : List ℕ) → IsShort N w → IsOneLine (with_fixed N w)
 fixed_one_line N w s = one_line_added (N - length w) w s.one_line
 
 -- the number of fixed letters at the end of u
@@ -43,13 +43,13 @@ tail_length u =
     let t = kept_whole u in
     ap length t.1 ∙ length-append (kept u) (after (length (kept u)) t.0) ∙ ap (λ k. length (kept u) + k) (length_after (length (kept u)) t.0)
 
-fixed_again : (N : ℕ) (u : List ℕ) → length u ≡ N → with_fixed N (kept u) ≡ u
+pub fixed_again : (N : ℕ) (u : List ℕ) → length u ≡ N → with_fixed N (kept u) ≡ u
 fixed_again N u l =
     let n = tail_length u in
     let e : N - length (kept u) ≡ (kept_whole u).0 = omega arith in
     ap (λ k. kept u ++ after (length (kept u)) k) e ∙ sym (kept_whole u).1
 
-short_kept : (N : ℕ) (u : List ℕ) → IsOneLine u → length u ≡ N → 0 < N → IsShort N (kept u)
+pub short_kept : (N : ℕ) (u : List ℕ) → IsOneLine u → length u ≡ N → 0 < N → IsShort N (kept u)
 short_kept N u o l h = record {
   one_line = one_line_kept u o;
   short = (let n = tail_length u in omega arith);
@@ -68,10 +68,10 @@ swap_short N a b w s h l =
     ∙ kept_swap (with_fixed N w) a b h (let n = length-with_fixed N w s.short in omega arith)
 
 -- the permutations that exchanges give, for places i < j from 1 to N
-record AreSwapped (N i j : ℕ) (w : List ℕ) : Type 0 where
-  list : swapped i j (with_fixed N w) ≡ with_fixed N (times_swap i j w)
-  count : inversions (times_swap i j w) ≡ inversions (swapped i j (with_fixed N w))
-  short : IsShort N (times_swap i j w)
+pub record AreSwapped (N i j : ℕ) (w : List ℕ) : Type 0 where
+  pub list : swapped i j (with_fixed N w) ≡ with_fixed N (times_swap i j w)
+  pub count : inversions (times_swap i j w) ≡ inversions (swapped i j (with_fixed N w))
+  pub short : IsShort N (times_swap i j w)
 
 swapped_from_zero : (N a b : ℕ) (w : List ℕ) → IsShort N w → a < b → b < N → AreSwapped N (suc a) (suc b) w
 swapped_from_zero N a b w s h l = record {
@@ -95,7 +95,7 @@ swapped_from_zero N a b w s h l = record {
         let y : suc b - 1 ≡ b = omega arith in
         ap₂ (swap (with_fixed N w)) x y ∙ swap_is (with_fixed N w) a b (let n = long in omega arith) (let n = long in omega arith)
 
-are_swapped : (N i j : ℕ) (w : List ℕ) → IsShort N w → 1 ≤ i → i < j → j ≤ N → AreSwapped N i j w
+pub are_swapped : (N i j : ℕ) (w : List ℕ) → IsShort N w → 1 ≤ i → i < j → j ≤ N → AreSwapped N i j w
 are_swapped N zero j w s c h l = absurd (omega arith)
 are_swapped N (suc a) zero w s c h l = absurd (omega arith)
 are_swapped N (suc a) (suc b) w s c h l = swapped_from_zero N a b w s (omega arith) (omega arith)
@@ -132,9 +132,24 @@ after_kept r N w s h l =
     there : (b : ℕ) → Among b (after r (N - r)) → AreSwapped N r b w
     there b m = let x = after_among r (N - r) b m in let x0 = x.0 in let x1 = x.1 in are_swapped N r b w s h (omega arith) (omega arith)
 
+short_among : (N : ℕ) (w v : List ℕ) (f : ℕ → List ℕ) (js : List ℕ) → ((j : ℕ) → Among j js → IsShort N (f j)) → Among v (covers_among w (map f js)) → IsShort N v
+short_among N w v f js s i =
+    let x = Among_from_map f v js (Among_from_select (λ u. inversions u == inversions w + 1) v (map f js) i).0 in
+    subst (IsShort N) (sym x.2) (s x.0 x.1)
+
+pub before_short : (r N : ℕ) (w v : List ℕ) → IsShort N w → 1 ≤ r → r ≤ N → Among v (covers_down r w) → IsShort N v
+before_short r N w v s h l =
+    short_among N w v (λ a. times_swap a r w) (after 0 (r - 1)) (λ a m.
+    let x = after_among 0 (r - 1) a m in let x0 = x.0 in let x1 = x.1 in (are_swapped N a r w s (omega arith) (omega arith) l).short)
+
+pub after_short : (r N : ℕ) (w v : List ℕ) → IsShort N w → 1 ≤ r → r ≤ N → Among v (covers_among w (map (λ b. times_swap r b w) (after r (N - r)))) → IsShort N v
+after_short r N w v s h l =
+    short_among N w v (λ b. times_swap r b w) (after r (N - r)) (λ b m.
+    let x = after_among r (N - r) b m in let x0 = x.0 in let x1 = x.1 in (are_swapped N r b w s h (omega arith) (omega arith)).short)
+
 -- ---- places
 
-fixed_longer : (m n : ℕ) (w : List ℕ) → length w ≤ m → m ≤ n → with_fixed n w ≡ with_fixed m w ++ after m (n - m)
+pub fixed_longer : (m n : ℕ) (w : List ℕ) → length w ≤ m → m ≤ n → with_fixed n w ≡ with_fixed m w ++ after m (n - m)
 fixed_longer m n w h l =
     let e : n - length w ≡ (m - length w) + (n - m) = omega arith in
     let f : length w + (m - length w) ≡ m = omega arith in
@@ -142,7 +157,7 @@ fixed_longer m n w h l =
     ∙ ap (λ x. w ++ x) (after-append (length w) (m - length w) (n - m) ∙ ap (λ k. after (length w) (m - length w) ++ after k (n - m)) f)
     ∙ sym (append_assoc w (after (length w) (m - length w)) (after m (n - m)))
 
-widen : (m n : ℕ) (w : List ℕ) → IsShort m w → m ≤ n → IsShort n w
+pub widen : (m n : ℕ) (w : List ℕ) → IsShort m w → m ≤ n → IsShort n w
 widen m n w s h = record { one_line = s.one_line; short = (let l = s.short in omega arith); some = s.some; whole = s.whole }
 
 pub place_kept : (a m n : ℕ) (w : List ℕ) → IsShort m w → m ≤ n → 1 ≤ a → a ≤ m → letters_before a (with_fixed n w) ≡ letters_before a (with_fixed m w)
@@ -158,6 +173,16 @@ place_kept a m n w s h c l =
 
 -- ---- chains
 
+lifted_swaps : (k m N : ℕ) (w : List ℕ) → IsShort N w → 1 ≤ m → m ≤ N → k ≤ letters_before m (with_fixed N w) → (a : ℕ) → Among a (places k)
+    → AreSwapped N a (letters_before m (with_fixed N w) + 1) w
+lifted_swaps k m N w s h l f a i =
+    let x = after_among 0 k a i in
+    let x0 = x.0 in
+    let x1 = x.1 in
+    let n = length-with_fixed N w s.short in
+    let b = place_below m (with_fixed N w) (fixed_one_line N w s) h (omega arith) in
+    are_swapped N a (letters_before m (with_fixed N w) + 1) w s (omega arith) (omega arith) (omega arith)
+
 lifted_kept : (k m N : ℕ) (w : List ℕ) → IsShort N w → 1 ≤ m → m ≤ N → lifted k m (with_fixed N w) ≡ map (with_fixed N) (kept_lifted k m N w)
 lifted_kept k m N w s h l = elim (cases_lt (letters_before m (with_fixed N w)) k) [
   | inl f ↦
@@ -165,36 +190,17 @@ lifted_kept k m N w s h l = elim (cases_lt (letters_before m (with_fixed N w)) k
       ∙ sym (ap (λ t. map (with_fixed N) (cond t [] (covers_among w (map (λ a. times_swap a (letters_before m (with_fixed N w) + 1) w) (places k))))) (lt-ltb (letters_before m (with_fixed N w)) k f))
   | inr f ↦
       ap (λ t. cond t [] (covers_among (with_fixed N w) (map (λ a. swapped a (letters_before m (with_fixed N w) + 1) (with_fixed N w)) (places k)))) (le-ltb (letters_before m (with_fixed N w)) k f)
-      ∙ covers_with_fixed N w (λ a. times_swap a (letters_before m (with_fixed N w) + 1) w) (λ a. swapped a (letters_before m (with_fixed N w) + 1) (with_fixed N w)) (places k) s (λ a i. (there f a i).list) (λ a i. (there f a i).count)
+      ∙ covers_with_fixed N w (λ a. times_swap a (letters_before m (with_fixed N w) + 1) w) (λ a. swapped a (letters_before m (with_fixed N w) + 1) (with_fixed N w)) (places k) s (λ a i. (lifted_swaps k m N w s h l f a i).list) (λ a i. (lifted_swaps k m N w s h l f a i).count)
       ∙ sym (ap (λ t. map (with_fixed N) (cond t [] (covers_among w (map (λ a. times_swap a (letters_before m (with_fixed N w) + 1) w) (places k))))) (le-ltb (letters_before m (with_fixed N w)) k f))
 ]
-  where
-    there : k ≤ letters_before m (with_fixed N w) → (a : ℕ) → Among a (places k) → AreSwapped N a (letters_before m (with_fixed N w) + 1) w
-    there f a i =
-        let x = after_among 0 k a i in
-        let x0 = x.0 in
-        let x1 = x.1 in
-        let n = length-with_fixed N w s.short in
-        let b = place_below m (with_fixed N w) (fixed_one_line N w s) h (omega arith) in
-        are_swapped N a (letters_before m (with_fixed N w) + 1) w s (omega arith) (omega arith) (omega arith)
 
-lifted_short : (k m N : ℕ) (w v : List ℕ) → IsShort N w → 1 ≤ m → m ≤ N → Among v (kept_lifted k m N w) → IsShort N v
+pub lifted_short : (k m N : ℕ) (w v : List ℕ) → IsShort N w → 1 ≤ m → m ≤ N → Among v (kept_lifted k m N w) → IsShort N v
 lifted_short k m N w v s h l i = elim (cases_lt (letters_before m (with_fixed N w)) k) [
   | inl f ↦ absurd (subst (λ t. Among v (cond t [] (covers_among w (map (λ a. times_swap a (letters_before m (with_fixed N w) + 1) w) (places k))))) (lt-ltb (letters_before m (with_fixed N w)) k f) i)
-  | inr f ↦ from f (subst (λ t. Among v (cond t [] (covers_among w (map (λ a. times_swap a (letters_before m (with_fixed N w) + 1) w) (places k))))) (le-ltb (letters_before m (with_fixed N w)) k f) i)
+  | inr f ↦
+      short_among N w v (λ a. times_swap a (letters_before m (with_fixed N w) + 1) w) (places k) (λ a j. (lifted_swaps k m N w s h l f a j).short)
+      (subst (λ t. Among v (cond t [] (covers_among w (map (λ a. times_swap a (letters_before m (with_fixed N w) + 1) w) (places k))))) (le-ltb (letters_before m (with_fixed N w)) k f) i)
 ]
-  where
-    from : k ≤ letters_before m (with_fixed N w) → Among v (covers_among w (map (λ a. times_swap a (letters_before m (with_fixed N w) + 1) w) (places k))) → IsShort N v
-    from f j =
-        let x = Among_from_select (λ u. inversions u == inversions w + 1) v (map (λ a. times_swap a (letters_before m (with_fixed N w) + 1) w) (places k)) j in
-        let y = Among_from_map (λ a. times_swap a (letters_before m (with_fixed N w) + 1) w) v (places k) x.0 in
-        let z = after_among 0 k y.0 y.1 in
-        let z0 = z.0 in
-        let z1 = z.1 in
-        let n = length-with_fixed N w s.short in
-        let b = place_below m (with_fixed N w) (fixed_one_line N w s) h (omega arith) in
-        let t = are_swapped N y.0 (letters_before m (with_fixed N w) + 1) w s (omega arith) (omega arith) (omega arith) in
-        subst (IsShort N) (sym y.2) t.short
 
 chains_kept : (m d k N : ℕ) (φ ψ : List ℕ → ℤ) (w : List ℕ) → ((v : List ℕ) → IsShort N v → φ (with_fixed N v) ≡ ψ v) → IsShort N w → m ≤ N
     → total φ (chains_from m d k (with_fixed N w)) ≡ total ψ (kept_chains m d k N w)
@@ -312,7 +318,7 @@ lifted_less k m N w v s h l i = elim (cases_lt (letters_before m (with_fixed N w
         let o = fixed_one_line N w s in
         let b = place_below m (with_fixed N w) (fixed_one_line N w s) h (omega arith) in
         let there = letter_there m (with_fixed N w) (fixed_one_line N w s) h (omega arith) in
-        let t = are_swapped N y.0 (letters_before m (with_fixed N w) + 1) w s (omega arith) (omega arith) (omega arith) in
+        let t = lifted_swaps k m N w s h l f y.0 y.1 in
         let e : letters_before m (with_fixed N w) + 1 - 1 ≡ letters_before m (with_fixed N w) = omega arith in
         let at = ap (swap (with_fixed N w) (y.0 - 1)) e ∙ swap_is (with_fixed N w) (y.0 - 1) (letters_before m (with_fixed N w)) (omega arith) b in
         let same = sym at ∙ t.list ∙ ap (with_fixed N) (sym y.2) in
