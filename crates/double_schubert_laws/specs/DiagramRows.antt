@@ -38,7 +38,7 @@ over_covers_of m F q =
     plus (flat_map F (covers_before (letters_before m q + 1) q))
     (negate (flat_map F (covers_after (letters_before m q + 1) q)))
 
--- the sum over d ≤ e of (-1)^d·e_d(x_1, .., x_c) times F, to which `over_covers_of m` was applied e - d times
+-- in k variables: the sum over d ≤ e of (-1)^d·e_d(x_1, .., x_c) times F, to which `over_covers_of m` was applied e - d times
 abbrev pub one_row : ℕ → ℕ → ℕ → ℕ → (List ℕ → Poly) → List ℕ → Poly
 one_row zero c m k F q = F q
 one_row (suc e) c m k F q =

@@ -25,9 +25,9 @@ ghost use Rattle.double_schubert_laws.specs.DiagramRows.{one_row, times_rows};
 /// (`none_within`).
 ///
 /// Let μ be a permutation whose code falls, so that S(μ; x, y) is the product over all rows of its
-/// code, none longer than its number of letters (`within`). If exchanges at common descents lead from μ and n, .., 1 to the inverse of v and to a
-/// permutation p (`path_start`, `path`), then at p, for all rows, `times_rows` is s·S_v, up to the
-/// sign of v (`end`).
+/// code; no row has more cells than μ has letters (`within`). If exchanges at common descents lead
+/// from μ and n, .., 1 to the inverse of v and to a permutation p (`path_start`, `path`), then at
+/// p, for all rows, `times_rows` is s·S_v, up to the sign of v (`end`).
 ///
 /// Example: v = 2 1 is its own inverse, and its code 1 0 falls. So p is 2 1, and the only row has
 /// the factor x_1 - y_1. The place of the letter 2 in p is 1, so there are no covers v = p·t_a1
