@@ -29,3 +29,6 @@ mod ManyStarts
 pub mod Partial
 mod NothingLeft
 mod ExchangedFactors
+mod RangeSums
+mod LastRow
+mod LockStep

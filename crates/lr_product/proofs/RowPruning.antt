@@ -14,14 +14,14 @@ use Rattle.std.proofs.lemmas.List.{get_or_append_left, get_or-take, length-take-
 use Rattle.sym_model.proofs.Lists.{drop-none}
 use Rattle.sym_model.proofs.Numbers.{zero_either}
 
-get-added_other : (t i j : ℕ) (s w : List ℕ) → t < j → j < length s → get_or (added t i s ++ w) j 0 ≡ get_or s j 0
+pub get-added_other : (t i j : ℕ) (s w : List ℕ) → t < j → j < length s → get_or (added t i s ++ w) j 0 ≡ get_or s j 0
 get-added_other t i j [] w h l = absurd (omega arith)
 get-added_other zero i zero (a ∷ s) w h l = absurd (omega arith)
 get-added_other zero i (suc j) (a ∷ s) w h l = get_or_append_left s w 0 j (omega arith)
 get-added_other (suc t) i zero (a ∷ s) w h l = absurd (omega arith)
 get-added_other (suc t) i (suc j) (a ∷ s) w h l = get-added_other t i j s w (omega arith) (omega arith)
 
-get-added_at : (t i : ℕ) (s w : List ℕ) → t < length s → get_or (added t i s ++ w) t 0 ≡ get_or s t 0 + i
+pub get-added_at : (t i : ℕ) (s w : List ℕ) → t < length s → get_or (added t i s ++ w) t 0 ≡ get_or s t 0 + i
 get-added_at t i [] w l = absurd (omega arith)
 get-added_at zero i (a ∷ s) w l = refl
 get-added_at (suc t) i (a ∷ s) w l = get-added_at t i s w (omega arith)
@@ -36,7 +36,7 @@ get-added_most (suc t) i (suc j) (a ∷ s) w l = get-added_most t i j s w (omega
 -- let f be 0 at each sum in which some number, plus m, is less than the number of the bound at the same index (`VanishesBelow`). If t ≤ j, and the
 -- number at the index j, plus m, is less than that of the bound, then `filled` for letters up to t is 0, since these letters do not change this
 -- number
-below_fixed : (kept : Bool) (n out t k m j : ℕ) (above bound : List ℕ) (f : List ℕ → List ℕ → ℕ) (s : List ℕ) → VanishesBelow n m bound f → t ≤ j → j < n → n ≤ length s
+pub below_fixed : (kept : Bool) (n out t k m j : ℕ) (above bound : List ℕ) (f : List ℕ → List ℕ → ℕ) (s : List ℕ) → VanishesBelow n m bound f → t ≤ j → j < n → n ≤ length s
     → j < length bound → get_or s j 0 + m < get_or bound j 0 → filled kept n out t k above f s ≡ 0
 below_fixed kept n out zero k m j above bound f s v h l g b q = v (take n s) (drop n s) j (length-take-le n s g) b (let e = get_or-take n s j 0 l in omega arith)
 below_fixed kept n out (suc t) k m j above bound f s v h l g b q =
@@ -74,7 +74,7 @@ below_rows n (a ∷ outer) inner bound F l v =
 pub none_below : (n m : ℕ) (f : List ℕ → List ℕ → ℕ) → VanishesBelow n m [] f
 none_below n m f ν right j e b h = absurd (omega arith)
 
-numbers-cut : (X : ℕ → ℕ) (low a d : ℕ) → ((x : ℕ) → low + a ≤ x → x < low + a + d → X x ≡ 0) → sum_by X (numbers_from low (a + d)) ≡ sum_by X (numbers_from low a)
+pub numbers-cut : (X : ℕ → ℕ) (low a d : ℕ) → ((x : ℕ) → low + a ≤ x → x < low + a + d → X x ≡ 0) → sum_by X (numbers_from low (a + d)) ≡ sum_by X (numbers_from low a)
 numbers-cut X low zero d none = numbers-zero X low (0 + d) (λ x g h. none x (omega arith) (omega arith))
 numbers-cut X low (suc a) d none =
     let e : suc a + d ≡ suc (a + d) = omega arith in

@@ -77,7 +77,7 @@ rows_front n (suc row) (a ∷ outer) (b ∷ inner) F l =
     ∙ ap (λ (k : Bool). next_row n k (get_or inner row 0) (get_or outer row 0) (over_rows n (drop (row + 1) outer) (drop (row + 1) inner) F)) (later row (length outer))
     ∙ ap (λ k. next_row n (nat_lt (suc row + 1) (suc (length outer))) (get_or inner row 0) (get_or outer row 0) (over_rows n (drop k (a ∷ outer)) (drop k (b ∷ inner)) F)) (sym e)
 
-vanishes-rows : (n : ℕ) (outer inner bound : List ℕ) (F : List ℕ → List ℕ → ℕ) → length bound ≤ n → VanishesOutside bound F → VanishesOutside bound (over_rows n outer inner F)
+pub vanishes-rows : (n : ℕ) (outer inner bound : List ℕ) (F : List ℕ → List ℕ → ℕ) → length bound ≤ n → VanishesOutside bound F → VanishesOutside bound (over_rows n outer inner F)
 vanishes-rows n [] inner bound F l v = v
 vanishes-rows n (a ∷ outer) inner bound F l v = vanishes-row n (nat_lt 0 (length outer)) (part inner 1) a bound (over_rows n outer (drop 1 inner) F) l (vanishes-rows n outer (drop 1 inner) bound F l v)
 

@@ -72,7 +72,7 @@ comes-inside outer ν right h = ap (λ t. cond t 1 0) (by_places ν outer h)
         split (inl l) rec = front a (without_last_zeros ν') b outer' l
         split (inr l) rec = in_front-rest a (without_last_zeros ν') b outer' (rec (second_false (nat_le a b) (le-leb a b l) g))
 
-comes-below : (n : ℕ) (outer : List ℕ) → VanishesBelow n 0 outer (comes_to outer)
+pub comes-below : (n : ℕ) (outer : List ℕ) → VanishesBelow n 0 outer (comes_to outer)
 comes-below n outer ν right j e h g = ap (λ t. cond t 1 0) (short ν outer j h (omega arith))
   where
     first : (a : ℕ) (l : List ℕ) (b : ℕ) (outer' : List ℕ) → a < b → same (in_front a l) (b ∷ outer') ≡ false

@@ -9,3 +9,4 @@ pub mod ProductOfFactors
 pub mod LetterRoom
 pub mod Places
 pub mod RowExtension
+pub mod LastRows
