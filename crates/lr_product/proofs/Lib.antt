@@ -32,3 +32,4 @@ mod ExchangedFactors
 mod RangeSums
 mod LastRow
 mod LockStep
+mod Windows

@@ -80,7 +80,7 @@ both : (p q : Bool) (y : ℕ) → cond p (cond q y 0) 0 ≡ cond (p && q) y 0
 both true q y = refl
 both false q y = refl
 
-least_outside : (l t k : ℕ) (s : List ℕ) → l ≤ least_left l t k s
+pub least_outside : (l t k : ℕ) (s : List ℕ) → l ≤ least_left l t k s
 least_outside l zero k s = omega arith
 least_outside l (suc t) k s = omega arith
 

@@ -1,7 +1,7 @@
 -- The loop of `with_rows`: its start, and one pass, in which one row of the shape is added. The loop works on a table of states with counts; a
 -- *state* is a *sum*, which is a list of n numbers, followed by a description of the row added last.
-use Rattle.std.proofs.Common.{◌≡◌, ℕ, zero, suc, ◌+◌, ◌-◌, ◌*◌, ◌<◌, ◌≤◌, nat_lt, Bool, true, List, [], ◌∷◌, length, take, drop, get_or, nat_abs, refl, sym, ap, ap₂, subst, ◌∙◌, arith, rules}
-use Rattle.std.proofs.lemmas.Bool.{lt-ltb}
+use Rattle.std.proofs.Common.{◌≡◌, ℕ, zero, suc, ◌+◌, ◌-◌, ◌*◌, ◌<◌, ◌≤◌, nat_lt, Bool, true, false, List, [], ◌∷◌, length, take, drop, get_or, nat_abs, refl, sym, ap, ap₂, subst, ◌∙◌, arith, rules}
+use Rattle.std.proofs.lemmas.Bool.{lt-ltb, le-ltb}
 use Rattle.sym_model.specs.Partition.{Falls, size, part}
 use Rattle.sym_model.specs.Schur.{contains}
 use Rattle.sym_model.specs.WholeTerms.{WholeTerms}
@@ -124,3 +124,17 @@ pub last_row : (n row : ℕ) (outer inner : List ℕ) (starts es : List (List �
     → Agree (weighed n (λ ν r. f ν) es) (weighed n (over_rows n outer inner (λ ν r. f ν)) starts)
 last_row n row outer inner starts es f l agree =
     subst (λ (o : List ℕ). Agree (weighed n (over_rows n o (drop row inner) (λ ν r. f ν)) es) (weighed n (over_rows n outer inner (λ ν r. f ν)) starts)) (drop_all row outer l) agree
+
+-- what is left to add after all rows but two
+pub two_left : (n u : ℕ) (outer inner : List ℕ) (F : List ℕ → List ℕ → ℕ) → length outer ≡ u + 2
+    → over_rows n (drop u outer) (drop u inner) F ≡ over_rows n (get_or outer u 0 ∷ get_or outer (u + 1) 0 ∷ []) (get_or inner u 0 ∷ get_or inner (u + 1) 0 ∷ []) F
+two_left n u outer inner F e =
+    let k1 = get_or outer u 0 in
+    let k0 = get_or outer (u + 1) 0 in
+    let l1 = get_or inner u 0 in
+    let l0 = get_or inner (u + 1) 0 in
+    rows_front n u outer inner F (omega arith)
+    ∙ ap (next_row n (nat_lt (u + 1) (length outer)) l1 k1) (rows_front n (u + 1) outer inner F (omega arith))
+    ∙ ap₂ (λ (p : Bool) (o : List ℕ). next_row n p l1 k1 (next_row n (nat_lt (u + 1 + 1) (length outer)) l0 k0 (over_rows n o (drop (u + 1 + 1) inner) F))) (lt-ltb (u + 1) (length outer) (omega arith)) (drop_all (u + 1 + 1) outer (omega arith))
+    ∙ ap (λ (p : Bool). next_row n true l1 k1 (next_row n p l0 k0 F)) (le-ltb (u + 1 + 1) (length outer) (omega arith))
+    ∙ ap (λ (w : List ℕ). next_row n true l1 k1 (next_row n false (part w 1) k0 F)) (sym (drop-none (l0 ∷ [])))

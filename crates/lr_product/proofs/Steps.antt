@@ -1,6 +1,6 @@
 -- The loop of `with_column`, which adds one more column in all ways to each entry of a table. An entry is a state with its count, and a state is a
 -- sum, which is a list of n numbers, followed by the column added last.
-use Rattle.std.proofs.Common.{◌≡◌, ℕ, zero, suc, ◌+◌, ◌*◌, ◌<◌, ◌≤◌, Bool, true, ◌&&◌, cond, List, [], ◌∷◌, length, take, drop, refl, sym, ap, ◌∙◌, arith, rules}
+use Rattle.std.proofs.Common.{◌≡◌, ℕ, zero, suc, ◌+◌, ◌*◌, ◌<◌, ◌≤◌, Bool, true, ◌&&◌, cond, List, [], ◌∷◌, min, length, take, drop, refl, sym, ap, ◌∙◌, arith, rules}
 use Rattle.std.specs.Prelude.{Some, slice_get}
 use Rattle.sym_model.specs.Partition.{size}
 use Rattle.sym_model.specs.GoodTableau.{is_falling}
@@ -62,3 +62,17 @@ weighed-past n g (e ∷ es) (suc i) h = weighed-past n g es i (omega arith)
 
 pub agree_past : (now rest all : ℕ) → rest ≡ 0 → Agree (now + rest) all → Agree now all
 agree_past now rest all e p = agree_then _ _ _ (agree_same now (now + rest) (omega arith)) p
+
+-- capped sums and products: the entry of a table is counted `ways` times x
+pub agree_none : (now rest all rest' ways x : ℕ) → Agree (now + rest) all → rest ≡ ways * x + rest' → ways ≡ 0 → Agree (now + rest') all
+agree_none now rest all rest' ways x p e z = agree_then _ _ _ (agree_same _ (now + rest) (let q = ap (λ w. w * x) z in omega arith)) p
+
+agree_saturated : (now w product sum : ℕ) → product ≡ min w 340282366920938463463374607431768211455 → sum ≡ min (now + product) 340282366920938463463374607431768211455 → Agree sum (now + w)
+agree_saturated now w product sum p s = record { below = λ h. omega arith; past = λ h. omega arith }
+
+pub agree_product : (now rest all rest' ways x y product sum next : ℕ) → Agree (now + rest) all → rest ≡ ways * x + rest' → y ≡ x
+    → product ≡ min (ways * y) 340282366920938463463374607431768211455 → sum ≡ min (now + product) 340282366920938463463374607431768211455 → Agree next sum
+    → Agree (next + rest') all
+agree_product now rest all rest' ways x y product sum next p e g a s c =
+    let more = agree_then _ _ _ c (agree_saturated now (ways * x) product sum (a ∙ ap (λ z. min (ways * z) 340282366920938463463374607431768211455) g) s) in
+    agree_then _ _ _ (agree_sum next (now + ways * x) rest' more) (agree_then _ _ _ (agree_same _ (now + rest) (omega arith)) p)

@@ -1,7 +1,7 @@
 -- The last two rows of a tableau, added to a sum c (n numbers) so that it becomes μ (n positive numbers). In the last row but one, the first l places
 -- are outside the shape, and E_t places have a letter of at most t; in the last row, `outside` places are outside the shape. Then the letters of the
 -- last row are determined, and E_0 = l ≤ E_1 ≤ .. ≤ E_n is a chain in which only neighbours depend on each other.
-use Rattle.std.specs.Prelude.{ℕ, zero, suc, ◌+◌, ◌-◌, ◌==◌, nat_le, min, max, Bool, ◌&&◌, cond, List, drop, slice_index}
+use Rattle.std.specs.Prelude.{ℕ, zero, suc, ◌+◌, ◌-◌, ◌==◌, nat_le, min, max, Bool, ◌&&◌, cond, List, [], ◌∷◌, drop, slice_index}
 use Rattle.sym_model.specs.Sum.{sum_by}
 use Rattle.tableau_laws.specs.Grid.{may_precede}
 use Rattle.lr_product.specs.Extension.{numbers_from}
@@ -44,3 +44,8 @@ completes outside μ (suc t) k right ν =
     && (nat_le (slice_index μ (suc t)) (slice_index ν t)
     && nat_le (outside + (slice_index μ t - slice_index ν t)) k)))
     (completes outside μ t (k - (slice_index μ t - slice_index ν t)) (drop 1 right) ν) 0
+
+-- a plus the sums of the first 0, 1, 2, .. numbers of the list
+abbrev pub sums_from : ℕ → List ℕ → List ℕ
+sums_from a [] = a ∷ []
+sums_from a (x ∷ xs) = a ∷ sums_from (a + x) xs

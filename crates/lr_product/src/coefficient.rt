@@ -13,6 +13,7 @@ ghost use Rattle.lr_product.specs.Capped.{Agree};
 
 use crate::columns::ways_by_columns;
 use crate::letter_room::has_no_room;
+use crate::rows::count_by_rows;
 use crate::states::{States, coefficient_of};
 use crate::table::capped;
 use calc_base::{NoMemory, SumFault};
@@ -62,9 +63,9 @@ fn count_in(
     let in_left = number_inside(alloc, left.parts())?;
     let in_right = number_inside(alloc, right.parts())?;
     if in_left < in_right {
-        return count_inside(alloc, outer, right, left);
+        return count_inside(alloc, outer, right, left, in_left);
     }
-    count_inside(alloc, outer, left, right)
+    count_inside(alloc, outer, left, right, in_right)
 }
 
 /// The number of partitions inside the partition `shape`, or 2^64 - 1 if it is greater.
@@ -96,12 +97,13 @@ fn add_up(numbers: &mut [u64]) {
 
 /// The number of lattice tableaux of the skew shape outer/inner with the content `content`, or 2^127
 /// if it is greater. Their letters are at most the number of parts of `content`, so only these
-/// letters are tried.
+/// letters are tried. `inside` is the number of partitions inside `content`.
 fn count_inside(
     alloc: Global,
     outer: &Partition,
     inner: &Partition,
     content: &Partition,
+    inside: u64,
 ) -> Result<u128, NoMemory>
     ensures agrees { IfOk result (λ count. Agree count
         (product_count (rows outer.now) inner.now content.now outer.now)) }
@@ -112,8 +114,22 @@ fn count_inside(
     }
     let letters = content.rows();
     let parts = content.parts();
+    let most = most_states(outer, inside);
+    if let Some(count) = count_by_rows(alloc, outer, inner.parts(), parts, most)? {
+        return Ok(count);
+    }
     let table = ways_by_columns(alloc, &[], outer, inner.parts(), letters, parts)?;
     Ok(count_of(&table, parts))
+}
+
+/// The number of states up to which the tableaux are counted by rows; beyond it the columns are
+/// usually faster, whose states are about as many as the partitions inside the content. Up to six
+/// rows there is no limit.
+fn most_states(outer: &Partition, inside: u64) -> usize {
+    if outer.rows() <= 6 {
+        return usize::MAX;
+    }
+    (inside / 4) as usize
 }
 
 /// The total count of those states of the table that begin with the numbers of `parts`, or 2^127 if

@@ -106,7 +106,7 @@ fn line_of(alloc: Global, outer: &[u16], inner: &[u16], column: u16) -> Result<V
 
 /// The table with a single state, whose count is 1. Its sum is `start` followed by zeros, `letters`
 /// numbers in all, and no column has been added to it.
-fn first_table(alloc: Global, start: &[u16], letters: u16) -> Result<States, NoMemory>
+pub(crate) fn first_table(alloc: Global, start: &[u16], letters: u16) -> Result<States, NoMemory>
     requires { rows start.now ≤ letters }
     ensures { IfOk result (λ table. (f : List ℕ → List ℕ → ℕ)
         → Agree (weighed letters f table.entries) (f (resize letters start.now) [])) }

@@ -24,6 +24,7 @@ mod columns;
 mod counts;
 mod extension;
 mod factor_product;
+mod last_rows;
 mod letter_room;
 mod letters;
 mod next_factor;

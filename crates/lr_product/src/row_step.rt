@@ -1,7 +1,7 @@
 //! One more row added to each state of a table. A state is the sum reached, a list of numbers,
 //! followed by numbers that describe the row added last.
 ghost use Rattle.std.specs.Prelude.{◌≡◌, ℕ, ◌+◌, ◌-◌, ◌*◌, ◌^◌, ◌<◌, ◌≤◌, List, length, take};
-ghost use Rattle.std.specs.Prelude.{cond, true, nat_le, OnOk, IfOk};
+ghost use Rattle.std.specs.Prelude.{cond, true, nat_le, OnOk, IfOk, IfSome};
 ghost use Rattle.sym_model.specs.GoodTableau.{is_falling};
 ghost use Rattle.sym_model.specs.Partition.{size};
 ghost use Rattle.tableau_laws.specs.Grid.{may_precede};
@@ -20,7 +20,8 @@ use std::alloc::Global;
 /// `letters`. The row ends in column `end`, its first `outside` places are outside the shape, and
 /// the rows below it have `later` cells. New states keep the row if `is_kept`. The counts, capped
 /// at 2^127, are correct for the sums in which, at each index of `bound`, the number is at most the
-/// number b of `bound` and at least b - `later`. Fails only if memory runs out.
+/// number b of `bound` and at least b - `later`. `None` if the table has more than `most` states.
+/// Fails only if memory runs out.
 pub(crate) fn with_row(
     alloc: Global,
     table: &States,
@@ -30,20 +31,21 @@ pub(crate) fn with_row(
     later: u16,
     bound: &[u16],
     is_kept: bool,
-) -> Result<States, NoMemory>
+    most: usize,
+) -> Result<Option<States>, NoMemory>
     requires letters { letters ≤ 512 }
     requires bound { length bound.now ≤ letters }
     requires cells { outside ≤ end }
     requires short { end ≤ 4096 }
     requires reached { weighed letters (unreached letters (4096 - (end - outside))) table.now.entries
         ≡ 0 }
-    ensures counts { IfOk result (λ next. (f : List ℕ → List ℕ → ℕ) → VanishesOutside bound.now f
-        → VanishesBelow letters later bound.now f
+    ensures counts { IfOk result (λ o. IfSome o (λ next. (f : List ℕ → List ℕ → ℕ)
+        → VanishesOutside bound.now f → VanishesBelow letters later bound.now f
         → Agree (weighed letters f next.entries)
-        (weighed letters (next_row letters is_kept outside end f) table.now.entries)) }
-    ensures reached { IfOk result
+        (weighed letters (next_row letters is_kept outside end f) table.now.entries))) }
+    ensures reached { IfOk result (λ o. IfSome o
         (λ next. (m : ℕ) → weighed letters (unreached letters m) table.now.entries ≡ 0
-        → weighed letters (unreached letters (m + (end - outside))) next.entries ≡ 0) }
+        → weighed letters (unreached letters (m + (end - outside))) next.entries ≡ 0)) }
 {
     let width = width_of(letters, is_kept);
     let room = table.len().next_power_of_two();
@@ -59,8 +61,11 @@ pub(crate) fn with_row(
             ways: capped(ways),
         };
         add_rows(&mut reached, &mut next, state, end, bound, row)?;
+        if next.len() > most {
+            return Ok(None);
+        }
     }
-    Ok(next.into_states())
+    Ok(Some(next.into_states()))
 }
 
 /// The length of a state: `letters` numbers for the sum, and `letters` more for the row if it is
@@ -121,7 +126,7 @@ fn add_rows(
 
 /// Whether a row of `end` places is allowed below the row that `above` describes: at least `end`
 /// places of that row have a letter less than the greatest letter. Always true if `above` is empty.
-fn may_stand_below(above: &[u16], end: u16) -> bool
+pub(crate) fn may_stand_below(above: &[u16], end: u16) -> bool
     ensures { result ≡ may_precede nat_le end above.now }
 {
     match above.first() {

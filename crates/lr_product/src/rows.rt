@@ -1,15 +1,18 @@
 //! The rows of a shape added one by one to the states of a table, from the first to the last, and
 //! the choice between filling a shape by rows and by columns. A state begins with the sum reached,
 //! a list of numbers; its count is the number of ways to reach it.
-ghost use Rattle.std.specs.Prelude.{◌≡◌, ℕ, ◌+◌, ◌-◌, ◌≤◌, true, List, length, IfOk, OnOk};
-ghost use Rattle.sym_model.specs.Partition.{IsPartition, size};
+ghost use Rattle.std.specs.Prelude.{◌≡◌, ℕ, ◌+◌, ◌-◌, ◌≤◌, true, List, [], length, drop, IfOk, OnOk, IfSome};
+ghost use Rattle.sym_model.specs.Partition.{IsPartition, ArePositive, size};
+ghost use Rattle.sym_model.specs.Polynomial.{resize};
 ghost use Rattle.sym_model.specs.Schur.{contains};
 ghost use Rattle.tableau_laws.specs.ColumnFold.{column_lines};
-ghost use Rattle.lr_product.specs.WeighedSum.{weighed, over_states, unreached, VanishesOutside};
+ghost use Rattle.lr_product.specs.WeighedSum.{weighed, over_states, unreached, comes_to};
+ghost use Rattle.lr_product.specs.WeighedSum.{VanishesOutside};
 ghost use Rattle.lr_product.specs.Capped.{Agree};
 ghost use Rattle.lr_product.specs.RowExtension.{over_rows, begun, cell_count, VanishesBelow};
 
-use crate::columns::with_columns;
+use crate::columns::{first_table, with_columns};
+use crate::last_rows::{LastRows, completed_count};
 use crate::letter_room::part_at;
 use crate::letters::rest_of;
 use crate::row_step::with_row;
@@ -48,27 +51,34 @@ pub(crate) fn with_shape(
     ensures shape { OnOk result (IsPartition outer.now) }
 {
     let has_one_start = starts.len() <= 1;
-    if letters > 0 && is_faster_by_rows(outer, letters, !bound.is_empty(), has_one_start) {
-        return with_rows(alloc, starts, outer, inner, letters, bound);
+    if letters > 0 && is_faster_by_rows(outer, letters, has_one_start) {
+        let rows = outer.parts().len();
+        let table = with_rows(
+            alloc,
+            starts,
+            outer,
+            inner,
+            letters,
+            bound,
+            rows,
+            usize::MAX,
+        )?;
+        // There is no memory for more states than `usize::MAX`.
+        return table.ok_or(NoMemory);
     }
     with_columns(alloc, starts, outer, inner, letters, bound)
 }
 
-/// Whether a shape is probably filled faster by rows than by columns. If `is_bounded`, only sums
-/// that begin with given numbers are to be counted, and the answer is yes for shapes of at most
-/// five rows: a state is left out as soon as a number of its sum is too small to become the given
-/// number. Otherwise three conditions must hold: the shape has one row, or there is one start, which
-/// nearly determines the row added last; the number of columns is at least three times the number
-/// of rows; and either rows and letters together are at most six, or there are at most four rows,
-/// all of the same length. For other shapes the table by rows usually has more states.
-fn is_faster_by_rows(outer: &Partition, letters: u16, is_bounded: bool, has_one_start: bool) -> bool
+/// Whether a shape is probably filled faster by rows than by columns. Three conditions must hold:
+/// the shape has one row, or there is one start, which nearly determines the row added last; the
+/// number of columns is at least three times the number of rows; and either rows and letters
+/// together are at most six, or there are at most four rows, all of the same length. For other
+/// shapes the table by rows usually has more states.
+fn is_faster_by_rows(outer: &Partition, letters: u16, has_one_start: bool) -> bool
     ensures shape { IsPartition outer.now }
 {
     let rows = outer.rows();
     let columns = outer.part(1);
-    if is_bounded {
-        return rows <= 5;
-    }
     if columns / 3 < rows || rows > 1 && !has_one_start {
         return false;
     }
@@ -78,9 +88,10 @@ fn is_faster_by_rows(outer: &Partition, letters: u16, is_bounded: bool, has_one_
     rows <= 4 && u32::from(outer.size()) == u32::from(rows) * u32::from(columns)
 }
 
-/// The table of the states reached from those of `starts` by adding all rows of outer/inner, with
-/// letters up to `letters`. Its counts, capped at 2^127, are correct for the sums that begin with
-/// the numbers of `bound`. Fails only if memory runs out.
+/// The table of the states reached from those of `starts` by adding the first `rows` rows of
+/// outer/inner, with letters up to `letters`. Its counts, capped at 2^127, are correct for the sums
+/// from which sums that begin with the numbers of `bound` are reached by the other rows. `None` if a
+/// table has more than `most` states. Fails only if memory runs out.
 fn with_rows(
     alloc: Global,
     starts: States,
@@ -88,34 +99,83 @@ fn with_rows(
     inner: &[u16],
     letters: u16,
     bound: &[u16],
-) -> Result<States, NoMemory>
+    rows: usize,
+    most: usize,
+) -> Result<Option<States>, NoMemory>
     requires letters { letters ≤ 512 }
     requires inside { contains outer.now inner.now ≡ true }
     requires size { size outer.now ≤ 4096 }
     requires reached { weighed letters (unreached letters (4096 - size outer.now)) starts.entries
         ≡ 0 }
     requires bound { length bound.now ≤ letters }
-    ensures ways { IfOk result (λ table. (f : List ℕ → ℕ)
+    requires rows { rows ≤ length outer.now }
+    ensures ways { IfOk result (λ o. IfSome o (λ table. (f : List ℕ → ℕ)
         → VanishesOutside bound.now (λ ν right. f ν)
         → VanishesBelow letters 0 bound.now (λ ν right. f ν)
-        → Agree (weighed letters (λ ν right. f ν) table.entries)
+        → Agree (weighed letters (over_rows letters (drop rows outer.now) (drop rows inner.now)
+        (λ ν right. f ν)) table.entries)
         (weighed letters (over_rows letters outer.now inner.now (λ ν right. f ν))
-        starts.entries)) }
-    ensures reached { IfOk result
-        (λ table. weighed letters (unreached letters 4096) table.entries ≡ 0) }
+        starts.entries))) }
+    ensures reached { IfOk result (λ o. IfSome o
+        (λ table. weighed letters (unreached letters 4096) table.entries ≡ 0)) }
     ensures shape { OnOk result (IsPartition outer.now) }
 {
     let parts = outer.parts();
     let mut table = starts;
     let mut later = number_of_cells(parts, inner);
-    for row in 0..parts.len() {
+    for row in 0..rows {
         let outside = part_at(inner, row);
         let end = parts[row];
         later = later.saturating_sub(end.saturating_sub(outside));
         let is_kept = row + 1 < parts.len();
-        table = with_row(alloc, &table, letters, outside, end, later, bound, is_kept)?;
+        let next = with_row(
+            alloc, &table, letters, outside, end, later, bound, is_kept, most,
+        )?;
+        let Some(next) = next else {
+            return Ok(None);
+        };
+        table = next;
     }
-    Ok(table)
+    Ok(Some(table))
+}
+
+/// The number of ways to fill outer/inner with the content `content`, or 2^127 if it is greater. The
+/// shape is filled by rows, and the last two rows are counted together. `None` if a table has more
+/// than `most` states, if there is no letter, if there are fewer than two rows, or if a sum exceeds
+/// 2^128 - 1. Fails only if memory runs out.
+pub(crate) fn count_by_rows(
+    alloc: Global,
+    outer: &Partition,
+    inner: &[u16],
+    content: &[u16],
+    most: usize,
+) -> Result<Option<u128>, NoMemory>
+    requires letters { length content.now ≤ 512 }
+    requires content { ArePositive content.now }
+    requires inside { contains outer.now inner.now ≡ true }
+    requires size { size outer.now ≤ 4096 }
+    ensures agrees { IfOk result (λ o. IfSome o (λ count. Agree count
+        (over_states (length content.now) (column_lines outer.now inner.now)
+        (comes_to content.now) (resize (length content.now) []) []))) }
+{
+    let parts = outer.parts();
+    if parts.len() < 2 || content.is_empty() {
+        return Ok(None);
+    }
+    let letters = content.len() as u16;
+    let upper = parts.len() - 2;
+    let starts = first_table(alloc, &[], letters)?;
+    let table = with_rows(alloc, starts, outer, inner, letters, content, upper, most)?;
+    let Some(table) = table else {
+        return Ok(None);
+    };
+    let rows = LastRows {
+        upper_outside: part_at(inner, upper),
+        upper_end: parts[upper],
+        lower_outside: part_at(inner, upper + 1),
+        lower_end: parts[upper + 1],
+    };
+    completed_count(alloc, &table, content, rows)
 }
 
 /// The number of cells of outer/inner.

@@ -81,6 +81,11 @@ impl Table {
         Ok(())
     }
 
+    /// The number of states.
+    pub(crate) fn len(&self) -> usize {
+        self.states.len()
+    }
+
     /// The list of the states with their counts.
     pub(crate) fn into_states(self) -> States
         ensures { result ≡ self }

@@ -7,7 +7,7 @@ use Rattle.lr_product.proofs.rows.with_rows.Given as goal
 
 abbrev pub invariant-loop-row : goal.invariant-loop-row
 invariant-loop-row l = record {
-  end : l.row-end ≡ length l.outer;
+  end : l.row-end ≡ l.rows;
   counts :
       (f : List ℕ → ℕ)
       → VanishesOutside l.bound (λ ν right. f ν)
