@@ -1,4 +1,4 @@
-use Rattle.std.proofs.Common.{◌≡◌, ℕ, ◌-◌, List, length, drop}
+use Rattle.std.proofs.Common.{◌≡◌, ℕ, ◌-◌, List, drop}
 use Rattle.sym_model.specs.Partition.{size}
 use Rattle.lr_product.specs.WeighedSum.{weighed, unreached, VanishesOutside}
 use Rattle.lr_product.specs.RowExtension.{over_rows, cell_count, VanishesBelow}
@@ -7,7 +7,6 @@ use Rattle.lr_product.proofs.rows.with_rows.Given as goal
 
 abbrev pub invariant-loop-row : goal.invariant-loop-row
 invariant-loop-row l = record {
-  end : l.row-end ≡ l.rows;
   counts :
       (f : List ℕ → ℕ)
       → VanishesOutside l.bound (λ ν right. f ν)
