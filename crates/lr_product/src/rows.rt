@@ -53,7 +53,7 @@ pub(crate) fn with_shape(
     let has_one_start = starts.len() <= 1;
     if letters > 0 && is_faster_by_rows(outer, letters, has_one_start) {
         let rows = outer.parts().len();
-        let table = with_rows(
+        let all = with_rows(
             alloc,
             starts,
             outer,
@@ -64,7 +64,10 @@ pub(crate) fn with_shape(
             usize::MAX,
         )?;
         // There is no memory for more states than `usize::MAX`.
-        return table.ok_or(NoMemory);
+        let Some(table) = all else {
+            return Err(NoMemory);
+        };
+        return Ok(table);
     }
     with_columns(alloc, starts, outer, inner, letters, bound)
 }
