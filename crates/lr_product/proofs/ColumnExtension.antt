@@ -84,7 +84,7 @@ pass-cons b c (r ∷ s ∷ right) = refl
 regroup : (above chain fit pass falls : Bool) → ((above && chain) && ((fit && pass) && falls)) ≡ ((above && fit) && (chain && (pass && falls)))
 regroup above chain fit pass falls = grind arith
 
-cond_and : (p q : Bool) (x : ℕ) → cond (p && q) x 0 ≡ cond p (cond q x 0) 0
+pub cond_and : (p q : Bool) (x : ℕ) → cond (p && q) x 0 ≡ cond p (cond q x 0) 0
 cond_and true q x = refl
 cond_and false q x = refl
 

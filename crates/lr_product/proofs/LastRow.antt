@@ -65,6 +65,10 @@ range_open (suc t) outside k x μ s ν (a ∷ w) e m g b falls l h =
     let c = b t refl in let d = falls t in
     and_from (nat_le x a) (nat_le (get_or μ (suc t) 0) (get_or ν t 0)) (le-leb x a (omega arith)) (le-leb (get_or μ (suc t) 0) (get_or ν t 0) (omega arith))
 
+pub least_outside : (outside t k : ℕ) (s : List ℕ) → outside ≤ least_left outside t k s
+least_outside outside zero k s = omega arith
+least_outside outside (suc t) k s = omega arith
+
 gates : (m m' q q' : Bool) (L R : ℕ) → L ≡ cond (q && q') R 0 → cond (m && m') L 0 ≡ cond (m && (q && (m' && q'))) R 0
 gates true true true q' L R e = e
 gates true true false q' L R e = e
@@ -183,12 +187,8 @@ completed outside μ p (suc t) k s ν right l long o falls below same =
         numbers-zero X a (b - a) (λ x l' h'. let z = here in wrong x (inr (omega arith)))
         ∙ sym (ap (λ u. cond (u && nat_le (outside + m) k) R 0) (lt-leb (get_or ν t 0) (get_or μ t 0) c))
     by (inr c) (inl d) rest =
-        numbers-zero X a (b - a) (λ x l' h'. let z = here in let g = least_outside t k s in wrong x (inl (omega arith)))
+        numbers-zero X a (b - a) (λ x l' h'. let z = here in let g = least_outside outside t k s in wrong x (inl (omega arith)))
         ∙ sym (ap (λ u. cond (u && nat_le (outside + m) k) R 0) (le-leb (get_or ν t 0) (get_or μ t 0) c) ∙ ap (λ u. cond u R 0) (lt-leb (outside + m) k d))
-      where
-        least_outside : (t' k' : ℕ) (s' : List ℕ) → outside ≤ least_left outside t' k' s'
-        least_outside zero k' s' = omega arith
-        least_outside (suc t') k' s' = omega arith
     by (inr c) (inr d) rest =
         chosen (is_open outside μ ν t (k - m) w) refl c d ∙ next c d rest
         ∙ sym (ap (λ u. cond (u && nat_le (outside + m) k) R 0) (le-leb (get_or ν t 0) (get_or μ t 0) c) ∙ ap (λ u. cond u R 0) (le-leb (outside + m) k d))

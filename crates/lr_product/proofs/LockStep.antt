@@ -15,11 +15,12 @@ use Rattle.alternant_laws.proofs.StraightShapes.{falls_places}
 use Rattle.lr_product.specs.Extension.{numbers_from, mark}
 use Rattle.lr_product.specs.RowExtension.{added, filled, next_row, over_rows, least_left, most_left}
 use Rattle.lr_product.specs.LastRows.{missing, chain_low, chain_end, chains, completes}
+use Rattle.lr_product.proofs.ColumnExtension.{cond_and}
 use Rattle.lr_product.proofs.Pruned.{numbers-zero}
 use Rattle.lr_product.proofs.Ranges.{numbers-ext}
 use Rattle.lr_product.proofs.RowFilling.{MayAdd, falls-put, length_put, most_within}
 use Rattle.lr_product.proofs.RowPruning.{get-added_at, get-added_other}
-use Rattle.lr_product.proofs.LastRow.{get-added_before, last_row}
+use Rattle.lr_product.proofs.LastRow.{get-added_before, last_row, least_outside}
 use Rattle.lr_product.proofs.RangeSums.{sum-matched}
 
 drop-added : (n t i : ℕ) (s w : List ℕ) → t < n → n ≤ length s → drop n (added t i s ++ w) ≡ drop n s ++ w
@@ -75,14 +76,6 @@ placed_from outside μ t k x v h =
 when : (b : Bool) (y : ℕ) → (b ≡ true → y ≡ 0) → cond b y 0 ≡ 0
 when true y h = h refl
 when false y h = refl
-
-both : (p q : Bool) (y : ℕ) → cond p (cond q y 0) 0 ≡ cond (p && q) y 0
-both true q y = refl
-both false q y = refl
-
-pub least_outside : (l t k : ℕ) (s : List ℕ) → l ≤ least_left l t k s
-least_outside l zero k s = omega arith
-least_outside l (suc t) k s = omega arith
 
 -- the terms of `filled` after the letters t + 1 are placed in both rows, and the terms of `chains`
 abbrev row_terms : (l outside : ℕ) (μ c : List ℕ) (t k m : ℕ) (above : List ℕ) (x : ℕ) → ℕ
@@ -225,7 +218,7 @@ lock_step n l outside μ c f inside (suc t) s k m above p h long falls below sta
         ∙ reduces ν (x ∷ r) long' falls' (λ j g g'. agree j (omega arith) g' ∙ get-added_other t (k - x) j s (mark true x) g (omega arith))
         ∙ ap (λ y. cond p (cond (is_placed outside μ t m x y) (completes outside μ t (m - (get_or μ t 0 - y)) (drop 1 (x ∷ r)) ν) 0) 0) at
         ∙ ap (λ w. cond p (cond (is_placed outside μ t m x (v x)) (completes outside μ t (rest x) w ν) 0) 0) (drop-none r)
-        ∙ both p (is_placed outside μ t m x (v x)) (completes outside μ t (rest x) r ν)
+        ∙ sym (cond_and p (is_placed outside μ t m x (v x)) (completes outside μ t (rest x) r ν))
 
     each : (x : ℕ) → least_left l t k c ≤ x → x < most_left l t k above + 1
         → (n ≤ length (state x) → is_falling (take n (state x)) ≡ true → ((j : ℕ) → j < t → get_or (state x) j 0 ≡ get_or c j 0) → (t ≡ 0 → x ≡ l) → l ≤ x
@@ -237,7 +230,7 @@ lock_step n l outside μ c f inside (suc t) s k m above p h long falls below sta
         (falls-put n t (k - x) s (mark true x) (omega arith) long falls (may x g g'))
         (λ j q. get-added_before t (k - x) j s (mark true x) q (omega arith) ∙ below j (omega arith))
         (λ e. begin x e g g') (let e = least_outside l t k c in omega arith) (reduced x)
-        ∙ sym (both p (is_placed outside μ t m x (v x)) (cond (rest x + x == l + outside + missing t μ c) (chains l outside μ c t x (drop 1 above)) 0))
+        ∙ cond_and p (is_placed outside μ t m x (v x)) (cond (rest x + x == l + outside + missing t μ c) (chains l outside μ c t x (drop 1 above)) 0)
 
     under : (u : Bool) → sum_by (λ x. cond u (row_terms l outside μ c t k m above x) 0) (numbers_from (least_left l t k c) (most_left l t k above + 1 - least_left l t k c))
         ≡ cond u (cond (m + k == l + outside + missing (suc t) μ c) (chains l outside μ c (suc t) k above) 0) 0
@@ -253,7 +246,7 @@ last_two l outside k1 k0 μ c above positive some long falls o o' inside =
     ap (λ y. cond (may_precede nat_le k1 above) y 0)
     (lock_step n l outside μ c F inside n c k1 k0 (drop 1 above) true (omega arith) (omega arith) (ap is_falling (take_all n c (omega arith)) ∙ falls) (λ j h. refl)
     (λ e. absurd (omega arith)) o reduces)
-    ∙ both (may_precede nat_le k1 above) (k0 + k1 == l + outside + missing n μ c) (chains l outside μ c n k1 (drop 1 above))
+    ∙ sym (cond_and (may_precede nat_le k1 above) (k0 + k1 == l + outside + missing n μ c) (chains l outside μ c n k1 (drop 1 above)))
     ∙ ap (λ u. cond (may_precede nat_le k1 above && u) (chains l outside μ c n k1 (drop 1 above)) 0)
     (equal-sym (k0 + k1) (l + outside + missing n μ c) ∙ ap (λ y. l + outside + missing n μ c == y) (let e : k0 + k1 ≡ k1 + k0 = omega arith in e))
   where

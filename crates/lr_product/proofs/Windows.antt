@@ -1,7 +1,6 @@
 -- Sums over ranges of numbers as differences of the sums of the first numbers of a list.
-use Rattle.std.proofs.Common.{◌≡◌, ℕ, zero, suc, ◌+◌, ◌-◌, ◌<◌, ◌≤◌, max, List, [], ◌∷◌, ◌++◌, length, map, drop, get_or, append_assoc, refl, sym, ap, ap₂, ◌∙◌, arith}
-use Rattle.std.proofs.Math.Seq.{drop-cons}
-use Rattle.std.proofs.lemmas.List.{map-append, drop_all}
+use Rattle.std.proofs.Common.{◌≡◌, ℕ, zero, suc, ◌+◌, ◌-◌, ◌<◌, ◌≤◌, max, List, [], ◌∷◌, ◌++◌, length, map, drop, get_or, refl, sym, ap, ap₂, ◌∙◌, arith}
+use Rattle.std.proofs.lemmas.List.{map-append}
 use Rattle.sym_model.specs.Sum.{sum_by}
 use Rattle.lr_product.specs.Extension.{numbers_from}
 use Rattle.lr_product.specs.LastRows.{missing, chain_end, chains, sums_from}
@@ -18,10 +17,6 @@ numbers-split X low (suc a) b =
     let i = numbers-split X (low + 1) a b in
     let g : X low + (sum_by X (numbers_from (low + 1) a) + sum_by X (numbers_from (low + 1 + a) b)) ≡ X low + sum_by X (numbers_from (low + 1) a) + sum_by X (numbers_from (low + 1 + a) b) = omega arith in
     ap (λ k. sum_by X (numbers_from low k)) e ∙ ap (λ y. X low + y) i ∙ g ∙ ap (λ x. X low + sum_by X (numbers_from (low + 1) a) + sum_by X (numbers_from x b)) d
-
-length-numbers : (low k : ℕ) → length (numbers_from low k) ≡ k
-length-numbers low zero = refl
-length-numbers low (suc k) = ap suc (length-numbers (low + 1) k)
 
 length-mapped : (X : ℕ → ℕ) (low k : ℕ) → length (map X (numbers_from low k)) ≡ k
 length-mapped X low zero = refl
@@ -84,22 +79,6 @@ window X first count low end sums e f h l =
     ap (λ k. sum_by X (numbers_from first k)) p ∙ numbers-split X first (low - first) (end - low)
     ∙ ap (λ x. sum_by X (numbers_from first (low - first)) + sum_by X (numbers_from x (end - low))) q in
     omega arith
-
--- one number more in the list of the sums of the first numbers
-pub sums-next : (done xs all : List ℕ) (i s x next : ℕ) → i < length xs → x ≡ get_or xs i 0 → next ≡ s + x
-    → done ++ sums_from s (drop i xs) ≡ all → (done ++ s ∷ []) ++ sums_from next (drop (i + 1) xs) ≡ all
-sums-next done xs all i s x next h e g p =
-    let d : suc i ≡ i + 1 = omega arith in
-    append_assoc done (s ∷ []) (sums_from next (drop (i + 1) xs))
-    ∙ ap₂ (λ (u : ℕ) (v : List ℕ). done ++ s ∷ sums_from u v) (g ∙ ap (λ y. s + y) e) (ap (λ k. drop k xs) (sym d))
-    ∙ sym (ap (λ v. done ++ sums_from s v) (drop-cons xs i 0 h))
-    ∙ p
-
-pub sums-done : (done xs all : List ℕ) (i s : ℕ) → length xs ≤ i → done ++ sums_from s (drop i xs) ≡ all → done ++ s ∷ [] ≡ all
-sums-done done xs all i s h p = sym (ap (λ v. done ++ sums_from s v) (drop_all i xs h)) ∙ p
-
-pub missing-next : (t : ℕ) (μ c : List ℕ) → missing (t + 1) μ c ≡ missing t μ c + (get_or μ t 0 - get_or c t 0)
-missing-next t μ c = let e : t + 1 ≡ suc t = omega arith in ap (λ k. missing k μ c) e
 
 -- the chains with one letter more that end with k, as a sum over a range
 pub next-chain : (l outside : ℕ) (μ c above : List ℕ) (t k needed low past value : ℕ) → needed ≡ l + outside + missing (t + 1) μ c

@@ -1,7 +1,7 @@
 -- The last two rows of a tableau, added to a sum c (n numbers) so that it becomes μ (n positive numbers). In the last row but one, the first l places
 -- are outside the shape, and E_t places have a letter of at most t; in the last row, `outside` places are outside the shape. Then the letters of the
 -- last row are determined, and E_0 = l ≤ E_1 ≤ .. ≤ E_n is a chain in which only neighbours depend on each other.
-use Rattle.std.specs.Prelude.{ℕ, zero, suc, ◌+◌, ◌-◌, ◌==◌, nat_le, min, max, Bool, ◌&&◌, cond, List, [], ◌∷◌, drop, slice_index}
+use Rattle.std.specs.Prelude.{ℕ, zero, suc, ◌+◌, ◌-◌, ◌==◌, nat_le, min, max, ◌&&◌, cond, List, [], ◌∷◌, drop, slice_index}
 use Rattle.sym_model.specs.Sum.{sum_by}
 use Rattle.tableau_laws.specs.Grid.{may_precede}
 use Rattle.lr_product.specs.Extension.{numbers_from}

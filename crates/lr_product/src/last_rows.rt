@@ -13,7 +13,7 @@ ghost use Rattle.tableau_laws.specs.Grid.{pass_by_place};
 ghost use Rattle.lr_product.specs.Capped.{Agree};
 ghost use Rattle.lr_product.specs.Extension.{numbers_from};
 ghost use Rattle.lr_product.specs.RowExtension.{over_rows, least_left as least_left_of};
-ghost use Rattle.lr_product.specs.LastRows.{missing, chain_low, chain_end, chains, sums_from};
+ghost use Rattle.lr_product.specs.LastRows.{missing, chain_end, chains, sums_from};
 ghost use Rattle.lr_product.specs.WeighedSum.{at_state, weighed, unreached, comes_to};
 
 use crate::letter_room::part_at;

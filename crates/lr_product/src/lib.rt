@@ -4,9 +4,9 @@
 //!
 //! The tableaux are counted column by column, from the rightmost to the leftmost. A sum is the
 //! start plus the content of the columns added so far; a table has, for each pair of a sum and the
-//! column added last, the number of ways to reach this pair. If the shape has at most five rows,
-//! and this is expected to need fewer pairs, the tableaux are counted row by row instead, from the
-//! first row on.
+//! column added last, the number of ways to reach this pair. For some shapes of few rows, and for
+//! single coefficients as long as there are few pairs, the tableaux are counted row by row instead,
+//! from the first row on; for single coefficients the last two rows are counted at once.
 //!
 //! What is proved:
 //!

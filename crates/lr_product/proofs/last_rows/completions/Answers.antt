@@ -1,9 +1,8 @@
-use Rattle.std.proofs.Common.{◌≡◌, ℕ, ◌+◌, ◌-◌, ◌<◌, ◌≤◌, ◌==◌, nat_le, Bool, true, false, ◌&&◌, cond, List, [], ◌∷◌, length, take, drop, get_or, refl, sym, ap, ap₂, subst, ◌∙◌, arith}
+use Rattle.std.proofs.Common.{◌≡◌, ℕ, ◌+◌, ◌-◌, ◌≤◌, nat_le, Bool, true, false, ◌&&◌, cond, List, [], ◌∷◌, length, take, drop, get_or, refl, sym, ap, ap₂, subst, ◌∙◌, arith}
 use Rattle.std.proofs.lemmas.Bool.{eq-eqb, ne_eqb}
 use Rattle.std.proofs.lemmas.List.{length-take-le}
 use Rattle.tableau_laws.specs.Grid.{may_precede, pass_by_place}
 use Rattle.lr_product.specs.WeighedSum.{comes_to}
-use Rattle.lr_product.specs.RowExtension.{over_rows}
 use Rattle.lr_product.specs.LastRows.{missing, chains}
 use Rattle.lr_product.proofs.LockStep.{last_two}
 use Rattle.lr_product.proofs.RowRounds.{vanishes-rows}

@@ -1,7 +1,8 @@
 use Rattle.std.proofs.Common.{◌≡◌, ℕ, ◌+◌, ◌-◌, ◌<◌, ◌≤◌, true, List, [], ◌∷◌, length, drop, get_or, refl, sym, ap, ap₂, subst, ◌∙◌, arith, rules}
 use Rattle.std.specs.Prelude.{IfSome}
 use Rattle.std.proofs.lemmas.Option.{IfSome_then}
-use Rattle.sym_model.specs.Partition.{IsPartition, size}
+use Rattle.sym_model.specs.Partition.{size}
+use Rattle.sym_model.proofs.SortedParts.{IsPartition-none}
 use Rattle.sym_model.specs.Schur.{contains}
 use Rattle.sym_model.specs.Polynomial.{resize}
 use Rattle.tableau_laws.specs.ColumnFold.{column_lines}
@@ -16,12 +17,9 @@ use Rattle.lr_product.proofs.RowRounds.{RowRoom, row_room, two_left, weighed_row
 use Rattle.lr_product.proofs.Sums.{comes-inside, comes-below}
 use Rattle.lr_product.proofs.rows.count_by_rows.Goals as goal
 
-nothing : IsPartition []
-nothing = search rules
-
 no_states : (n m : ℕ) (es : List (List ℕ × ℕ)) → ((f : List ℕ → List ℕ → ℕ) → Agree (weighed n f es) (f (resize n []) []))
     → weighed n (unreached n m) es ≡ 0
-no_states n m es agree = first_reached n m [] es nothing (omega arith) agree
+no_states n m es agree = first_reached n m [] es IsPartition-none (omega arith) agree
 
 room : (row : ℕ) (outer inner parts : List ℕ) (b : ℕ) → contains outer inner ≡ true → size outer ≤ 4096 → parts ≡ outer → row < length parts → b ≡ get_or inner row 0
     → RowRoom 0 row (get_or parts row 0) b []

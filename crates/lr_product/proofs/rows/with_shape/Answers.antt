@@ -1,4 +1,4 @@
-use Rattle.std.proofs.Common.{◌≡◌, ℕ, ◌-◌, ◌≤◌, List, length, drop, ap, subst, arith}
+use Rattle.std.proofs.Common.{ℕ, ◌-◌, ◌≤◌, List, length, drop, ap, subst, arith}
 use Rattle.std.specs.Prelude.{IfSome}
 use Rattle.sym_model.specs.Partition.{size}
 use Rattle.linear_combinations.proofs.Steps.{if_answered}
