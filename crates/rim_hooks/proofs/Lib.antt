@@ -11,3 +11,7 @@ pub mod QuantumSteps
 pub mod FusionSteps
 pub mod ReducedProducts
 pub mod SignCasts
+pub mod TurnedLists
+pub mod TurnedFactors
+pub mod RotatedTerms
+pub mod LiftedEntries

@@ -8,3 +8,4 @@ pub mod Turns
 pub mod AlcoveOf
 pub mod FactorRows
 pub mod HeavySteps
+pub mod Bases

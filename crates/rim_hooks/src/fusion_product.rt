@@ -1,5 +1,6 @@
 //! Fusion products of several Schur functions.
-ghost use Rattle.std.specs.Prelude.{◌≡◌, ◌+◌, ◌≤◌, IfOk, IsErrOf};
+ghost use Rattle.std.specs.Prelude.{◌≡◌, ◌+◌, ◌<◌, ◌≤◌, IfOk, IfSome, IsErrOf};
+ghost use Rattle.rim_hooks.specs.FactorRows.{AreFew};
 ghost use Rattle.sym_model.specs.ReductionSteps.{IsReflectedInSteps};
 ghost use Rattle.sym_model.specs.WholeTerms.{as_fractions};
 ghost use Rattle.sym_model.specs.PastLimit.{HasHeavy};
@@ -9,7 +10,9 @@ ghost use Rattle.sym_model.specs.Products.{classical_product};
 
 use crate::alcove_of;
 use crate::collecting::add_signed;
+use crate::lifted_labels::lifted_terms;
 use crate::long_factors::has_long;
+use crate::quantum_product::product_by_rotation;
 use crate::reduction::Reduction;
 use crate::steps::{no_terms, product_in_steps};
 use calc_base::{NoMemory, SumFault};
@@ -123,9 +126,46 @@ pub fn fusion(
     if has_long(factors, rows) {
         return no_terms(alloc);
     }
-    let rule = Reflections {
-        k: rows,
-        n: rows + level,
+    reflected_in_steps(alloc, factors, rows, rows + level)
+}
+
+/// The product of the factors, reflected after each factor: from the quantum product of rotated
+/// factors if this pays, otherwise from the factors themselves.
+fn reflected_in_steps(
+    alloc: Global,
+    factors: &Factors,
+    k: u16,
+    n: u16,
+) -> Result<Terms<Partition, Int>, SumFault>
+    requires limits { (1 ≤ k) × (k ≤ 64) × (k < n) × (n ≤ k + 64) }
+    requires few { AreFew k factors.now }
+    ensures steps { IfOk result (IsReflectedInSteps k n factors.now) }
+    ensures large { IsErrOf result SumFault.Large → HasHeavy (IsFusionWeight k n factors.now) }
+{
+    if let Some(terms) = lifted_product(alloc, factors, k, n)? {
+        return Ok(terms);
+    }
+    product_in_steps::<Partition, Reflections>(alloc, &Reflections { k, n }, factors)
+}
+
+/// The product of the factors, reflected after each factor, from their quantum product by rotation;
+/// `None` if rotating does not pay, or the labels or coefficients are too large.
+fn lifted_product(
+    alloc: Global,
+    factors: &Factors,
+    k: u16,
+    n: u16,
+) -> Result<Option<Terms<Partition, Int>>, NoMemory>
+    requires limits { (1 ≤ k) × (k ≤ 64) × (k < n) × (n ≤ k + 64) }
+    requires few { AreFew k factors.now }
+    ensures { IfOk result (λ product. IfSome product (IsReflectedInSteps k n factors.now)) }
+{
+    let Some(terms) = product_by_rotation(alloc, factors, k, n)? else {
+        return Ok(None);
     };
-    product_in_steps::<Partition, Reflections>(alloc, &rule, factors)
+    match lifted_terms(alloc, &terms, k, n) {
+        Ok(product) => Ok(product),
+        Err(SumFault::NoMemory) => Err(NoMemory),
+        Err(SumFault::Large) => Ok(None),
+    }
 }

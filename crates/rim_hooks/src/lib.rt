@@ -5,6 +5,9 @@
 //! reads back as such a product if and only if it reads back as a result of reducing after each
 //! factor.
 //!
+//! Factors are replaced by rotations of them modulo n where these have fewer cells. The labels of the
+//! product are then rotated back, and a fusion product is read from the quantum product.
+//!
 //! A law function has an empty body: its contract is the law.
 //!
 //! What is proved:
@@ -27,6 +30,7 @@
 
 mod collecting;
 mod fusion_product;
+mod lifted_labels;
 mod long_factors;
 mod printed_steps;
 mod quantum_product;
@@ -34,6 +38,9 @@ mod reduction;
 mod reflections;
 mod removal_orders;
 mod removals;
+mod rotated_factors;
+mod rotated_labels;
+mod rotation;
 mod sorted;
 mod steps;
 mod table;

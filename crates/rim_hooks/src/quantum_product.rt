@@ -1,5 +1,5 @@
 //! Quantum products of several Schur functions.
-ghost use Rattle.std.specs.Prelude.{◌≡◌, ◌+◌, ◌≤◌, List, IfOk, IsErrOf};
+ghost use Rattle.std.specs.Prelude.{◌≡◌, ℕ, ◌+◌, ◌<◌, ◌≤◌, List, length, IfOk, IfSome, IsErrOf};
 ghost use Rattle.sym_model.specs.Reductions.{AreReductions, Reduction as TermReduction, reduced_terms};
 ghost use Rattle.sym_model.specs.Products.{classical_product};
 ghost use Rattle.sym_model.specs.ReductionSteps.{IsReducedInSteps};
@@ -7,17 +7,22 @@ ghost use Rattle.sym_model.specs.WholeTerms.{as_fractions};
 ghost use Rattle.sym_model.specs.PastLimit.{HasHeavy};
 ghost use Rattle.sym_model.specs.ReductionSteps.{IsQuantumWeight};
 ghost use Rattle.sym_model.specs.Reductions.{IsRimHookReduction};
+ghost use Rattle.partitions.specs.FactorList.{AreFactors};
+ghost use Rattle.rotation_laws.specs.Rotation.{AreTurned};
 ghost use Rattle.rim_hooks.specs.AnyOrder.{HaveSameSums};
+ghost use Rattle.rim_hooks.specs.FactorRows.{AreFew};
 
 use crate::collecting::add_signed;
 use crate::core_of;
 use crate::long_factors::has_long;
 use crate::reduction::Reduction;
+use crate::rotated_factors::{Bases, bases_of};
+use crate::rotated_labels::rotated_terms;
 use crate::steps::{no_terms, product_in_steps};
 use calc_base::{NoMemory, SumFault};
 use coeff_rings::{Int, Ring};
 use linear_combinations::{Lin, Terms};
-use partitions::{Factors, Partition};
+use partitions::{Factors, FactorsFault, Partition};
 use sparse_polys::Power;
 use std::alloc::Global;
 
@@ -139,9 +144,68 @@ pub fn quantum(
     if has_long(factors, rows) {
         return no_terms(alloc);
     }
-    let rule = RimHooks {
-        k: rows,
-        n: rows + cols,
+    reduced_in_steps(alloc, factors, rows, rows + cols)
+}
+
+/// The product of the factors, reduced after each factor: of rotated factors if this pays, with the
+/// labels rotated back, otherwise of the factors themselves.
+fn reduced_in_steps(
+    alloc: Global,
+    factors: &Factors,
+    k: u16,
+    n: u16,
+) -> Result<Terms<Power, Int>, SumFault>
+    requires limits { (1 ≤ k) × (k ≤ 64) × (k < n) × (n ≤ k + 64) }
+    requires few { AreFew k factors.now }
+    ensures steps { IfOk result (IsReducedInSteps k n factors.now) }
+    ensures large { IsErrOf result SumFault.Large → HasHeavy (IsQuantumWeight k n factors.now) }
+{
+    if let Some(terms) = product_by_rotation(alloc, factors, k, n)? {
+        return Ok(terms);
+    }
+    product_in_steps::<Power, RimHooks>(alloc, &RimHooks { k, n }, factors)
+}
+
+/// The product of the factors, reduced after each factor, from that of rotated factors; `None` if
+/// rotating does not pay, or a coefficient of that product is too large.
+pub(crate) fn product_by_rotation(
+    alloc: Global,
+    factors: &Factors,
+    k: u16,
+    n: u16,
+) -> Result<Option<Terms<Power, Int>>, NoMemory>
+    requires limits { (1 ≤ k) × (k ≤ 64) × (k < n) × (n ≤ k + 64) }
+    requires few { AreFew k factors.now }
+    ensures steps { IfOk result (λ product. IfSome product (IsReducedInSteps k n factors.now)) }
+    ensures limits { AreFactors factors.now }
+{
+    let bases = match bases_of(alloc, factors, k, n) {
+        Ok(Some(bases)) => bases,
+        Ok(None) => return Ok(None),
+        Err(FactorsFault::NoMemory) => return Err(NoMemory),
+        Err(_) => return Ok(None),
     };
-    product_in_steps::<Power, RimHooks>(alloc, &rule, factors)
+    match rotated_back(alloc, &bases, k, n) {
+        Ok(product) => Ok(product),
+        Err(SumFault::NoMemory) => Err(NoMemory),
+        Err(SumFault::Large) => Ok(None),
+    }
+}
+
+/// The product of the bases, reduced after each of them, with its labels rotated to those of the
+/// product of the factors.
+fn rotated_back(
+    alloc: Global,
+    bases: &Bases,
+    k: u16,
+    n: u16,
+) -> Result<Option<Terms<Power, Int>>, SumFault>
+    requires limits { (1 ≤ k) × (k ≤ 64) × (k < n) × (n ≤ k + 64) }
+    requires few { AreFew k bases.now.factors }
+    ensures { (factors : List (List ℕ)) → 2 ≤ length factors
+        → AreTurned k n factors bases.now.factors bases.now.turns bases.now.power
+        → IfOk result (λ product. IfSome product (IsReducedInSteps k n factors)) }
+{
+    let terms = product_in_steps::<Power, RimHooks>(alloc, &RimHooks { k, n }, &bases.factors)?;
+    rotated_terms(alloc, &terms, bases, k, n)
 }

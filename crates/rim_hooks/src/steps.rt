@@ -102,7 +102,7 @@ fn times_factor<L: Label, R: Reduction<L>>(
 }
 
 /// The factor at the index `at`.
-fn factor_at(factors: &Factors, at: usize) -> &Partition
+pub(crate) fn factor_at(factors: &Factors, at: usize) -> &Partition
     requires { at < length factors.now }
     ensures { slice_get factors.now at ≡ Some result.now }
 {
