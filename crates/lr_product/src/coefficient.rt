@@ -129,7 +129,7 @@ fn most_states(outer: &Partition, inside: u64) -> usize {
     if outer.rows() <= 6 {
         return usize::MAX;
     }
-    (inside / 4) as usize
+    (inside / 8) as usize
 }
 
 /// The total count of those states of the table that begin with the numbers of `parts`, or 2^127 if
