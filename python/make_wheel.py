@@ -1,17 +1,20 @@
 #!/usr/bin/env python3
-"""Makes the wheel of the Python package: `python/make_wheel.py [FOLDER] [--program FILE] [--library FILE]`, into build/ without a folder.
+"""Makes the wheel of the Python package: `python/make_wheel.py [FOLDER] [--program FILE] [--library FILE] [--musl]`, into build/ without a folder.
 
 It is also the backend that pip calls for `pip install ./python`, of a checkout or of a released archive. The program and the library go
 into the wheel: those that are given, or else those that release/genuine finds to be of the sources that are here, or in the sums of the archive.
-If the sources changed, or a file was altered, no wheel is made; if there is none, the wheel has none, and that is said. Nothing but
+If the sources changed, or a file was altered, no wheel is made; if there is none, the wheel has none, and that is said. A wheel for musl, the C
+library of Alpine Linux, has the program alone: that has its own C library in it, and the library asks for glibc. Nothing but
 Python 3.8 and a shell is needed: a wheel of a package without dependencies is an archive with some small files about itself."""
 import argparse
 import base64
 import hashlib
 import os
 import re
+import struct
 import subprocess
 import sys
+import sysconfig
 import tarfile
 import zipfile
 
@@ -24,6 +27,10 @@ PROGRAMS = {"win": "calc.exe", "": "calc"}
 LIBRARIES = {"mac": "libyorqanish.dylib", "win": "yorqanish.dll", "": "libyorqanish.so"}
 # The oldest glibc that a tag of pip names, and the tag's older name.
 OLDEST, OLDEST_TAG = 17, "manylinux_2_17_{0}.manylinux2014_{0}"
+# A program that asks for no C library runs beside any musl: this is the oldest that a tag of pip names in use.
+MUSL_TAG = "musllinux_1_1_{0}"
+# Kinds of segments of an ELF file, and of entries of the second kind.
+LOADER, DYNAMIC, NEEDED = 3, 2, 1
 # The first bytes of programs and libraries, with the processor where it is among them, and the tags of their machines: of Linux the processor alone.
 ELF, PE, MACH_O = b"\x7fELF", b"MZ", b"\xcf\xfa\xed\xfe"
 MACHINES = {(ELF, 18, 0x3E): "x86_64", (ELF, 18, 0xB7): "aarch64", (MACH_O, 4, 7): "macosx_11_0_x86_64", (MACH_O, 4, 12): "macosx_11_0_arm64", (PE, 0, 77): "win_amd64"}
@@ -50,6 +57,17 @@ def machine_of(path):
     return next((tag for (sign, at, kind), tag in MACHINES.items() if begin.startswith(sign) and begin[at : at + 1] == bytes([kind])), None)
 
 
+def is_static(path):
+    """Whether a program of Linux (an ELF file of 64 bits) asks for no other file: it names neither a loader nor a library."""
+    content = content_of(path)
+    begin, size, count = *struct.unpack_from("<Q", content, 32), *struct.unpack_from("<2H", content, 54)
+    for at in range(begin, begin + size * count, size):
+        kind, place, length = *struct.unpack_from("<I", content, at), *struct.unpack_from("<Q16xQ", content, at + 8)
+        if kind == LOADER or kind == DYNAMIC and any(tag == NEEDED for tag, _ in struct.iter_unpack("<2Q", content[place : place + length])):
+            return False
+    return True
+
+
 def genuine(name):
     """The file of this name that is of the sources that are here, or none where there is no file. Of a source archive what lies above is of others."""
     if os.path.exists(f"{HERE}/PKG-INFO") or not os.path.exists(f"{TOP}/release/genuine"):
@@ -61,8 +79,8 @@ def genuine(name):
     return said if done.returncode == 0 else None
 
 
-def tag_of(binaries):
-    """Where the wheel runs: on the machine of its binaries, on Linux by the newest glibc that they ask for."""
+def tag_of(binaries, is_musl=False):
+    """Where the wheel runs: on the machine of its binaries, on Linux by the newest glibc that they ask for, or beside musl."""
     if not binaries:
         return "py3-none-any"
     machine, *others = sorted({machine_of(it) for it in binaries})
@@ -70,6 +88,8 @@ def tag_of(binaries):
         raise SystemExit(f"make_wheel: {' and '.join(binaries)} are of different machines")
     if machine.startswith(("macosx", "win")):
         return f"py3-none-{machine}"
+    if is_musl:
+        return f"py3-none-{MUSL_TAG.format(machine)}"
     minors = [int(it) for path in binaries for it in re.findall(rb"GLIBC_2\.(\d+)", content_of(path))]
     newest = max([OLDEST, *minors])
     return f"py3-none-{OLDEST_TAG.format(machine) if newest == OLDEST else f'manylinux_2_{newest}_{machine}'}"
@@ -134,16 +154,18 @@ def digest(content):
     return base64.urlsafe_b64encode(hashlib.sha256(content).digest()).rstrip(b"=").decode()
 
 
-def make(out, program=None, library=None):
+def make(out, program=None, library=None, is_musl=False):
     """Makes the wheel in a folder; its name. A file that is named has to be there."""
-    program, library = program or genuine("calc"), library or genuine("libyorqanish.so")
+    program, library = program or genuine("calc"), library or (None if is_musl else genuine("libyorqanish.so"))
     for path in (program, library):
         if path and not machine_of(path):
             raise SystemExit(f"make_wheel: {path} is no program and no library")
+    if is_musl and (library or not program or "linux" not in tag_of([program]) or not is_static(program)):
+        raise SystemExit("make_wheel: a wheel for musl has a program of Linux that is linked statically, and no library")
     for path, what in ((program, "the program calc"), (library, "libyorqanish.so")):
-        if not path:
+        if not path and not (is_musl and path is library):
             print(f"make_wheel: {what} is not here, and is left out", file=sys.stderr)
-    tag = tag_of([it for it in (program, library) if it])
+    tag = tag_of([it for it in (program, library) if it], is_musl)
     name = f"yorqanish-{version()}-{tag}.whl"
     with zipfile.ZipFile(os.path.join(out, name), "w", zipfile.ZIP_DEFLATED) as wheel:
         for file, content in contents(program, library, tag).items():
@@ -163,7 +185,7 @@ def build_wheel(wheel_directory, config_settings=None, metadata_directory=None):
             "A source archive of yorqanish has no program calc in it, which the package needs: install a wheel, a checkout or a release. "
             "With --config-settings without-program=yes pip installs the package alone, for a calc that is elsewhere."
         )
-    return make(wheel_directory)
+    return make(wheel_directory, is_musl="musl" in (sysconfig.get_config_var("HOST_GNU_TYPE") or ""))
 
 
 def build_editable(wheel_directory, config_settings=None, metadata_directory=None):
@@ -201,10 +223,11 @@ def main():
     words.add_argument("folder", nargs="?", default=BUILD)
     words.add_argument("--program", help="the program calc (else as it is found)")
     words.add_argument("--library", help="libyorqanish.so (else as it is found)")
+    words.add_argument("--musl", action="store_true", help="for musl: with the program alone")
     given = words.parse_args()
     out = os.path.abspath(given.folder)
     os.makedirs(out, exist_ok=True)
-    print(os.path.join(out, make(out, given.program, given.library)))
+    print(os.path.join(out, make(out, given.program, given.library, given.musl)))
 
 
 if __name__ == "__main__":

@@ -134,6 +134,26 @@ def test_the_tag_of_the_library_alone():
         same(name, f"yorqanish-{version()}-py3-none-manylinux_2_17_x86_64.manylinux2014_x86_64.whl")
 
 
+def test_a_wheel_for_musl():
+    """It has the program alone, which asks for no other file; pip is given one where Python is one of musl."""
+    with tempfile.TemporaryDirectory() as room:
+        top = checkout(room)
+        musl = f"yorqanish-{version()}-py3-none-musllinux_1_1_x86_64.whl"
+        script = "import make_wheel, sys; make_wheel.sysconfig.get_config_var = lambda name: 'x86_64-pc-linux-musl'; print(make_wheel.build_wheel(sys.argv[1]))"
+        same(run(sys.executable, "-c", script, room, cwd=f"{top}/python").strip(), musl)
+        with zipfile.ZipFile(f"{room}/{musl}") as wheel:
+            names = wheel.namelist()
+            assert "yorqanish/calc" in names and "yorqanish/libyorqanish.so" not in names, names
+            wheel.extractall(f"{room}/musl")
+        os.chmod(f"{room}/musl/yorqanish/calc", 0o755)
+        tried = "import yorqanish\nprint(yorqanish.Calculator().coef([2], [1], [1]))\ntry: yorqanish.Calculator(library=True)\nexcept yorqanish.NoCalculator as error: print(error)"
+        one, told = run(sys.executable, "-c", tried, cwd=room, env={"PATH": "/nowhere", "PYTHONPATH": f"{room}/musl"}).splitlines()
+        assert one == "1" and "libyorqanish.so cannot be loaded as a library" in told, (one, told)
+        for program in (sys.executable, "/bin/true", *([LIBRARY] if LIBRARY else [])):
+            done = subprocess.run([sys.executable, f"{top}/python/make_wheel.py", room, "--musl", "--program", program], capture_output=True, text=True)
+            assert done.returncode and "linked statically" in done.stderr + done.stdout, done
+
+
 def test_a_source_archive_has_what_a_wheel_needs():
     with tempfile.TemporaryDirectory() as room:
         top = checkout(room)
