@@ -31,24 +31,21 @@ def numbers(words):
     return tuple(map(int, words))
 
 
-def partition(items):
-    items = without_last(0, items)
-    if any(a < b for a, b in zip(items, items[1:])):
-        raise Unreadable(f"{shown(items)} is no partition")
+def without_last(number, items):
+    """The list without this number at its end."""
+    while items and items[-1] == number:
+        items = items[:-1]
     return items
 
 
-def without_last(number, items):
-    """The list without this number at its end."""
-    items = list(items)
-    while items and items[-1] == number:
-        items.pop()
-    return tuple(items)
+def partition(items):
+    if any(a < b for a, b in zip(items, items[1:])):
+        raise Unreadable(f"{shown(items)} is no partition")
+    return without_last(0, items)
 
 
 def permutation(items):
     """A permutation without fixed letters at its end, but with the letter 1."""
-    items = tuple(items)
     if sorted(items) != list(range(1, len(items) + 1)) or not items:
         raise Unreadable(f"{shown(items)} is no permutation")
     while len(items) > 1 and items[-1] == len(items):
@@ -58,29 +55,17 @@ def permutation(items):
 
 def split(words, mark):
     """The lists of words between the marks."""
-    parts = [[]]
-    for it in words:
-        if it == mark:
-            parts.append([])
-        else:
-            parts[-1].append(it)
-    return parts
+    ends = [at for at, it in enumerate(words) if it == mark] + [len(words)]
+    return [words[start + 1:end] for start, end in zip([-1, *ends], ends)]
 
 
-def rows_of(words):
-    """The rows of a tableau."""
-    rows = split(words, "/")
-    if not all(rows):
+def rows_of(words, is_skew=True):
+    """The rows of a tableau; only one that is skew may have empty rows."""
+    parts = split(words, "/")
+    rows = tuple(() if it == ["."] else numbers(it) for it in parts)
+    if parts != [["."]] and not (all(parts) and (is_skew or all(rows))):
         raise Unreadable("a row of a tableau is missing")
-    return () if rows == [["."]] else tuple(() if it == ["."] else numbers(it) for it in rows)
-
-
-def tableau(words):
-    """The rows of a tableau that is not skew."""
-    rows = rows_of(words)
-    if () in rows:
-        raise Unreadable("a row of a tableau is empty")
-    return rows
+    return rows if parts != [["."]] else ()
 
 
 def fold(tree, of_number, of_label, signs):
@@ -109,20 +94,17 @@ def expression(words):
         raise Unreadable(f"{why}") from why
 
 
-def read_by(read):
-    return lambda words: read(numbers(words))
-
-
+PARTITION, PERMUTATION = (lambda words: partition(numbers(words))), (lambda words: permutation(numbers(words)))
 # the name of a command: the kind of its labels, the sign between its parts, the least and the greatest number of these, and what reads a part
 COMMANDS = {
-    "mult": ("partition", "-", 2, 8, read_by(partition)), "skew": ("partition", "/", 2, 2, read_by(partition)),
-    "coef": ("number", "-", 3, 3, read_by(partition)), "coprod": ("pair", "-", 1, 1, read_by(partition)),
-    "quantum": ("power", "-", 2, 8, read_by(partition)), "fusion": ("partition", "-", 2, 8, read_by(partition)),
-    "schubert": ("monomial", "-", 1, 1, read_by(permutation)), "schubmult": ("permutation", "-", 2, 2, read_by(permutation)),
-    "dschubmult": ("shift", "-", 2, 2, read_by(permutation)), "stanley": ("partition", "-", 1, 1, read_by(permutation)),
+    "mult": ("partition", "-", 2, 8, PARTITION), "skew": ("partition", "/", 2, 2, PARTITION),
+    "coef": ("number", "-", 3, 3, PARTITION), "coprod": ("pair", "-", 1, 1, PARTITION),
+    "quantum": ("power", "-", 2, 8, PARTITION), "fusion": ("partition", "-", 2, 8, PARTITION),
+    "schubert": ("monomial", "-", 1, 1, PERMUTATION), "schubmult": ("permutation", "-", 2, 2, PERMUTATION),
+    "dschubmult": ("shift", "-", 2, 2, PERMUTATION), "stanley": ("partition", "-", 1, 1, PERMUTATION),
     "expand": ("partition", None, 1, 1, expression), "plethysm": ("partition", None, 2, 2, expression),
-    "tab": ("text", "-from", 2, 3, rows_of), "rect": ("text", "-", 3, 3, rows_of), "unrsk": ("text", "-", 2, 2, tableau),
-    "rsk": ("text", "-", 1, 1, numbers), "growth": ("text", "-", 1, 1, read_by(permutation)),
+    "tab": ("text", "-from", 2, 3, rows_of), "rect": ("text", "-", 3, 3, rows_of), "unrsk": ("text", "-", 2, 2, lambda words: rows_of(words, False)),
+    "rsk": ("text", "-", 1, 1, numbers), "growth": ("text", "-", 1, 1, PERMUTATION),
 }
 
 

@@ -4,29 +4,25 @@ import re
 
 BASES = {"m": "monomials", "e": "elementaries", "h": "completes", "p": "power_sums", "s": "schurs"}
 SIGNS = {"+": "plus", "-": "minus", "*": "times"}
+WORD = re.compile(r"[mehps]\[(?:[0-9]+(?:,[0-9]+)*)?\]|[0-9]+(?:/[0-9]+)?|.", re.S)
 
 
 class Reader:
     """Reads a text; ValueError says where it is no expression."""
 
     def __init__(self, text):
-        self.text, self.words, self.at = text, re.findall("[0-9]+|[^0-9]", text), 0
+        self.text, self.words = text, WORD.findall(text)[::-1]
 
     def whole(self):
         found = self.sum()
-        return found if self.at == len(self.words) else self.fail()
+        return found if not self.words else self.fail()
 
     def fail(self):
-        raise ValueError(f"the expression {self.text} cannot be read at byte {len(''.join(self.words[:self.at]).encode())}")
+        raise ValueError(f"the expression {self.text} cannot be read {len(''.join(self.words).encode())} bytes before its end")
 
     def has(self, signs):
-        """The next sign if it is one of these, which is then taken."""
-        found = self.words[self.at] if self.at < len(self.words) and self.words[self.at] in signs else ""
-        self.at += bool(found)
-        return found
-
-    def must(self, sign):
-        return self.has(sign) or self.fail()
+        """The next word if it is one of these signs, which is then taken."""
+        return self.words.pop() if self.words and self.words[-1] in signs else ""
 
     def sum(self):
         return self.joined("+-", self.product, ("minus_first", self.product()) if self.has("-") else self.product())
@@ -35,28 +31,17 @@ class Reader:
         return self.joined("*", self.factor, self.factor())
 
     def joined(self, signs, read, found):
-        sign = self.has(signs)
-        while sign:
+        while sign := self.has(signs):
             found = ("operation", (SIGNS[sign],), found, read())
-            sign = self.has(signs)
         return found
-
-    def number(self):
-        word = self.words[self.at] if self.at < len(self.words) else ""
-        self.at += 1
-        return word if re.fullmatch("[0-9]+", word) else self.fail()
 
     def factor(self):
         if self.has("("):
             found = ("brackets", self.sum())
-            self.must(")")
-            return found
-        letter = self.has(BASES)
-        if not letter:
-            first = self.number()
-            return ("ratio", first, self.number()) if self.has("/") else ("numeral", first)
-        self.must("[")
-        numbers = []
-        while not self.has("]"):
-            numbers += [self.must(",") and self.number()] if numbers else [self.number()]
-        return ("label", (BASES[letter],), numbers)
+            return found if self.has(")") else self.fail()
+        if not self.words or len(self.words[-1]) == 1 and self.words[-1] not in "0123456789":
+            self.fail()
+        word = self.words.pop()
+        if word[-1] == "]":
+            return "label", (BASES[word[0]],), re.findall("[0-9]+", word)
+        return ("ratio", *word.split("/")) if "/" in word else ("numeral", word)

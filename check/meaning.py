@@ -139,8 +139,18 @@ class Definitions:
             local = {name: f"v{at}" for at, name in enumerate(places)}
             lines.append(f"    if {' and '.join(tests) or 'True'}:")
             lines += [f"        {local[name]} = {place}" for name, place in places.items()]
-            lines.append(f"        return {self.write(body, local)}")
+            lines += self.loop(patterns, body, local) or [f"        return {self.write(body, local)}"]
         return "\n".join(lines)
+
+    def loop(self, patterns, body, local):
+        """The code of a clause `f a (x ∷ xs) = e + f a xs` as a loop from the last element of the list on, since lists may be long; or nothing."""
+        again = (*patterns[:-1], *patterns[-1][3:]) if patterns else ()
+        if body[:2] not in (("op", "+"), ("op", "+ℤ")) or patterns[-1][:2] != ("op", "∷") or body[3][0] != "apply" or body[3][1][1] != self.where \
+                or body[3][2] != again or {it[0] for it in (*again, patterns[-1][2])} != {"name"} or again[-1][1] in names_in(body[2]):
+            return []
+        x, call = local[patterns[-1][2][1]], self.write(("apply", body[3][1], (*patterns[:-1], ("tuple", ()))), local)
+        return [f"        found, items = {call}, ({x}, *{local[again[-1][1]]})", f"        for {x} in reversed(items):",
+                f"            found = {self.write(body[2], local)} + found", "        return found"]
 
     def fit(self, pattern, place, tests, places):
         """The tests whether a pattern fits the value at a place of the code, and the places of its variables."""

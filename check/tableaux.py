@@ -4,7 +4,7 @@ import itertools
 import re
 from collections import Counter
 
-from claims import Undecided, Unreadable, Wrong, numbers, partition, rows_of, shown, tableau, without_last
+from claims import Undecided, Unreadable, Wrong, numbers, partition, rows_of, shown, without_last
 
 MOST_STEPS, MOST_LETTERS = 500000, 40
 
@@ -126,14 +126,14 @@ def check_text(claim, text):
         lines = lines_in(text, 2)
         if [it[:2] for it in lines] != ["P ", "Q "]:
             raise Unreadable("a line `P ..` and a line `Q ..` are wanted")
-        must_be_pair(data[0], *(tableau(it[2:].split()) for it in lines))
+        must_be_pair(data[0], *(rows_of(it[2:].split(), False) for it in lines))
     elif claim.name == "unrsk":
         must_be_pair(numbers(lines_in(text, 1)[0].split()), *data)
     elif claim.name == "rect":
         outer, inner, rows = data
         if len(inner) > len(outer) or min(lengths(outer, inner), default=0) < 0 or not is_of_shape(rows, outer, inner) or not is_semistandard(rows, inner):
             raise Unreadable("the tableau of the command is not semistandard, or not of the shape")
-        must_be_pair([a for row in reversed(rows) for a in row], tableau(lines_in(text, 1)[0].split()), None)
+        must_be_pair([a for row in reversed(rows) for a in row], rows_of(lines_in(text, 1)[0].split(), False), None)
     else:
         for i, line in enumerate(lines_in(text, len(data[0]) + 1)):
             shapes = [partition(numbers(re.findall("[0-9]+", it))) for it in line.split(" ")]
