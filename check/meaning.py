@@ -182,8 +182,8 @@ class Definitions:
                 loops.append(f"if {self.write(kind, local)}")
                 continue
             key, (meaning, _) = f"{declaration.name}.{name}", self.head(kind, local)
-            if key not in self.tried and left[0][1][:2] == ("op", "≡") and left[0][1][3][:1] == ("apply",) and left[0][1][3][1][1] == "Some":
-                loops.append(f"for w_{name} in {self.write(left[0][1][2], local)}[1:]")
+            if left[0][1][:2] == ("op", "≡") and left[0][1][3][0] == "apply" and left[0][1][3][1][1] == "Some":
+                loops.append(f"for w_{name} in {self.write(left[0][1][2], local)}[1:]")  # (`.. ≡ Some x` says what x is)
             elif key not in self.tried and meaning and meaning[0] and meaning[0].kind == "record":
                 loops.append(f"for w_{name} in {self.write(kind, local)}")
             else:
@@ -234,7 +234,8 @@ class Definitions:
             sums = [self.write(it, local) for side in body[2:] if side[0] == "apply" for it in side[2] if names[0] not in names_in(it)]
             sides = self.function_of(names, ("tuple", body[2:]), local)
             return f"equal_at_labels({self.where!r}, {sides}, [{', '.join(sums)}])"
-        return f"{'for_all' if kind == 'all' else 'for_some'}({names!r}, {self.values(names, of, local)}, {function})"
+        values = self.values(names, of, local)
+        return f"for_all({names!r}, {values}, {function})" if kind == "all" else f"any({function}(*it) for it in {values})"
 
     def called(self, tree, local):
         """A variable, a definition, a constructor or a word of the kit, with as many arguments as it takes, or fewer, or more."""

@@ -70,24 +70,27 @@ class Point:
         for each other column, that are 0 in these rows: Gauss's elimination, row by row. Labels share the first rows."""
         if not rows:
             return 1, [[i == j for j in range(len(columns))] for i in range(len(columns))]
-        value, vectors = self.reduced(rows[:-1], columns)
-        row = self.row(rows[-1], columns)
-        found = [sum(map(operator.mul, row, it)) % self.modulus for it in vectors]
+        (value, vectors), row, modulus = self.reduced(rows[:-1], columns), self.row(rows[-1], columns), self.modulus
+        found = [sum(map(operator.mul, row, it)) % modulus for it in vectors]
         at = next((i for i, it in enumerate(found) if it), None)
         if at is None:
             return 0, []
-        pivot, inverse = vectors[at], pow(found[at], -1, self.modulus)
-        vectors = [[(a - c * inverse % self.modulus * b) % self.modulus for a, b in zip(it, pivot)] if c else it
-                   for i, (it, c) in enumerate(zip(vectors, found)) if i != at]
-        return value * (-1) ** at * found[at] % self.modulus, vectors
+        pivot, inverse, others = vectors[at], pow(found[at], -1, modulus), []
+        for c, it in zip(found[:at] + found[at + 1:], vectors[:at] + vectors[at + 1:]):
+            c = c * inverse % modulus
+            others.append([(a - c * b) % modulus if b else a for a, b in zip(it, pivot)])
+        return value * (-1) ** at * found[at] % modulus, others
 
     def s(self, outer, inner=()):
         """The Schur function or skew Schur function: the determinant of Jacobi and Trudi."""
         if len(inner) > len(outer) or any(a < b for a, b in zip(outer, inner)):
             return 0
         rows, columns = tuple(a - i for i, a in enumerate(outer)), tuple(j - b for j, b in enumerate(inner + (0,) * (len(outer) - len(inner))))
-        value, vectors = self.reduced(rows[:-1], columns)
-        return value * sum(map(operator.mul, self.row(rows[-1], columns), vectors[0])) % self.modulus if rows and vectors else value
+        value, vectors = self.reduced(rows[:-2], columns)
+        if not vectors:
+            return value
+        last = [[sum(map(operator.mul, self.row(l, columns), it)) for it in vectors] for l in rows[-2:]]
+        return value * (last[0][0] * last[1][1] - last[0][1] * last[1][0] if last[1:] else last[0][0]) % self.modulus
 
     def augmented(self, parts):
         """The sum over different variables of x_1^a·x_2^b·.. for the parts a, b, .. ."""

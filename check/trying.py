@@ -6,7 +6,7 @@ import re
 import types
 
 import words
-from expressions import BASES, Reader
+from claims import BASES, Reader, shown
 from meaning import Definitions, NotComputed
 from source import fields
 
@@ -91,7 +91,7 @@ class Trial:
     """What is tried for one answer: numbers up to `most`."""
 
     def __init__(self, top):
-        scope = {name: getattr(self, name) for name in ("values", "for_all", "for_some", "equal_at_labels")}
+        scope = {name: getattr(self, name) for name in ("values", "for_all", "equal_at_labels")}
         self.definitions = Definitions(top, scope, TRIED)
         self.begin(0)
 
@@ -143,9 +143,6 @@ class Trial:
     def nothing(self, where, name):
         raise NotComputed(f"{where} speaks of all `{name}`, and nothing bounds these")
 
-    def for_some(self, names, values, holds):
-        return any(holds(*it) for it in values)
-
     def for_all(self, names, values, holds):
         for it in values:
             self.reason = ""
@@ -157,16 +154,10 @@ class Trial:
 
     def equal_at_labels(self, where, sides, sums):
         """Whether two sides are equal at each label of the formal sums that are arguments in them: at others both have the coefficient 0."""
-        for label in dict.fromkeys(label for it in sums if not callable(it) for label, _ in it):
+        sums = [it for it in sums if not callable(it)]
+        for label in dict.fromkeys(label for it in sums for label, _ in it) if len(sums) > 1 else self.nothing(where, "labels"):
             left, right = sides(label)
             if left != right:
                 self.reason = f"at {shown(label)} the answer gives {left}, the definition {right} ({where})"
                 return False
         return True
-
-
-def shown(value):
-    """A label as it is printed."""
-    if isinstance(value, tuple) and value and isinstance(value[0], tuple):
-        return " ".join(map(shown, value))
-    return "(" + ",".join(map(str, value)) + ")" if isinstance(value, tuple) else str(value)
