@@ -227,8 +227,9 @@ def must_occur(claim, label, degree):
 def compare(claim, terms):
     """Ends if both sides are equal: what was tried, and the logarithm, base 2, of a bound for the probability that a wrong table passes."""
     degree, step = claim.degree(), 2 * sum(claim.sizes) or 1
-    for _, label in terms:
-        must_occur(claim, label, degree)
+    for c, label in terms:
+        if c:
+            must_occur(claim, label, degree)
     size = max([degree, claim.variables or 0] + [size_of(label) for _, label in terms])
     if size > (MOST_DEGREE if claim.kind in ("partition", "pair", "power") else MOST_SIZE):
         raise Undecided(f"a degree or a number of variables of {size} is too large")

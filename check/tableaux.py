@@ -13,20 +13,18 @@ MOST_STEPS, MOST_LETTERS = 500000, 40
 
 def signed_contents(outer, inner):
     """The contents in the Jacobi–Trudi determinant of outer/inner, each with its sign: s is the sum of the signed h of them."""
-    n, found, steps = len(outer), Counter(), itertools.count()
-    inner += (0,) * (n - len(inner))
-
-    def place(i, free, sign, content):
-        if next(steps) > MOST_STEPS:
+    n, states = len(outer), {((), ()): 1}  # (columns that are taken, and the parts)
+    for i, b in enumerate(inner + (0,) * (n - len(inner))):
+        found = Counter()
+        for ((taken, parts), sign), j in itertools.product(states.items(), range(n)):
+            part = outer[j] - j - b + i
+            if j not in taken and part >= 0:
+                larger = tuple(sorted((*parts, *[part] * (part > 0)), reverse=True))
+                found[tuple(sorted((*taken, j))), larger] += -sign if sum(it > j for it in taken) % 2 else sign
+        states = found
+        if len(states) > MOST_STEPS // 20:
             raise Undecided("the count has too many steps")
-        if i == n:
-            found[tuple(sorted((it for it in content if it), reverse=True))] += sign
-        for at, j in enumerate(free):
-            part = outer[j] - j - inner[i] + i
-            if part >= 0:
-                place(i + 1, free[:at] + free[at + 1:], -sign if at % 2 else sign, [*content, part])
-    place(0, list(range(n)), 1, [])
-    return found
+    return {parts: c for (_, parts), c in states.items()}
 
 
 @functools.lru_cache(None)

@@ -60,10 +60,6 @@ def path(cells, start, end):
     return [came[end]] if end in came else []
 
 
-def only_last(trial, of):
-    return [of.last] if not of.factors else trial.nothing("StepsLead", "next")
-
-
 REMOVAL = ("each partition inside the shape, with n cells less", lambda trial, of: inside(of.shape, sum(of.shape) - of.n))
 ELEMENTS = ("", lambda trial, of: of.terms)
 SIGNS = ("", lambda trial, of: (1, -1))
@@ -80,7 +76,8 @@ TRIED = {
     "HasNoSquare.i": ("", lambda trial, of: trial.cells(of)),
     "IsConnected.i": ("", lambda trial, of: (a + b for a in trial.cells(of) for b in trial.cells(of))),
     "IsConnected.path": ("a shortest path of cells", lambda trial, of: path(trial.cells(of), (of.i, of.j), (of.k, of.l))),
-    "StepsLead.next": ("the last list, after the last factor", only_last),
+    "StepsLead.next": ("the last list, after the last factor",
+                        lambda trial, of: trial.nothing("StepsLead", "next") if of.factors else [of.last]),
     "PrintsWord.word": ("the word that the text shows", lambda trial, of: [tuple(map(int, re.findall(rb"\d+", bytes(of.text))))]),
     "PrintsRectified.straight": ("what all slides lead to", lambda trial, of: {end: 0 for _, end in trial.slides(of.filling)}),
     "IsReached.chosen": ("", lambda trial, of: [rows for rows, _ in trial.slides(of.t)]),
