@@ -74,7 +74,7 @@ TRIED = {
     "IsRimHookReduction.reductions": ("", lambda trial, of: trial.reductions(of.k, of.n, of.classical)),
     "IsQuantumStep.reductions": ("", lambda trial, of: itertools.product(*(trial.step(of.k, of.n, t[0][1], of.factor) for t in of.terms))),
     "HasNoSquare.i": ("", lambda trial, of: trial.cells(of)),
-    "IsConnected.i": ("", lambda trial, of: (a + b for a in trial.cells(of) for b in trial.cells(of))),
+    "IsConnected.i": ("", lambda trial, of: (a + b for a, b in itertools.product(trial.cells(of), repeat=2))),
     "IsConnected.path": ("a shortest path of cells", lambda trial, of: path(trial.cells(of), (of.i, of.j), (of.k, of.l))),
     "StepsLead.next": ("the last list, after the last factor",
                         lambda trial, of: trial.nothing("StepsLead", "next") if of.factors else [of.last]),
@@ -116,7 +116,7 @@ class Trial:
         """The lists of a reduction of each term."""
         some = lambda shape: (("Some", it) for it in itertools.product(inside(shape), (1, -1), range(self.most + 1)))
         found = ([it for it in (words.NONE, *some(label)) if self.of("RimHookReduction.ReducesTo", k, n, label, it)] for label, _ in terms)
-        return list(itertools.product(*found))
+        return itertools.product(*found)
 
     def step(self, k, n, *factors):
         return self.reductions(k, n, self.of("Products.classical_product", k, factors))
