@@ -46,24 +46,19 @@ class Point:
     in every number of variables."""
 
     def __init__(self, modulus, power):
-        self.modulus, self.ps, self.hs, self.es, self.monomials = modulus, [None], [1], [1], {(): 1}
+        self.modulus, self.monomials = modulus, {(): 1}
+        self.h, self.e = functools.partial(self.newton, [1], 1), functools.partial(self.newton, [1], -1)
         self.p = functools.lru_cache(None)(lambda k: power(k) % modulus)
         self.row = functools.lru_cache(None)(lambda l, columns: [self.h(l + c) for c in columns])
         self.reduced = functools.lru_cache(4000)(self.reduce)
 
-    def newton(self, found, k, sign):
-        """The value of h_k or e_k by Newton's identities."""
+    def newton(self, found, sign, k):
+        """The value of h_k or e_k by Newton's identities; those before it are found."""
         while len(found) <= k:
             n = len(found)
             total = sum(sign ** (i + 1) * self.p(i) * found[n - i] for i in range(1, n + 1))
             found.append(total * pow(n, -1, self.modulus) % self.modulus)
         return found[k] if k >= 0 else 0
-
-    def h(self, k):
-        return self.newton(self.hs, k, 1)
-
-    def e(self, k):
-        return self.newton(self.es, k, -1)
 
     def reduce(self, rows, columns):
         """A minor of the matrix of the h_(l + c) for the rows l and as many of the columns c, with its sign, and combinations of the columns, one

@@ -22,7 +22,8 @@ def readings(form, given):
     elif kind == "either":
         yield from (((name, value), rest) for name, part in zip(("inl", "inr"), parts) for value, rest in readings(part, given))
     elif kind == "many":
-        yield from (((first, *more), left) for first, rest in readings(parts[0], given) if len(rest) < len(given) for more, left in readings(form, rest))
+        yield from (((first, *more), left) for first, rest in readings(parts[0], given) if len(rest) < len(given)
+                    for more, left in readings(form, rest))
         yield (), given
 
 
