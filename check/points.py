@@ -50,7 +50,7 @@ class Point:
         self.h, self.e = functools.partial(self.newton, [1], 1), functools.partial(self.newton, [1], -1)
         self.p = functools.lru_cache(None)(lambda k: power(k) % modulus)
         self.row = functools.lru_cache(None)(lambda l, columns: [self.h(l + c) for c in columns])
-        self.reduced = functools.lru_cache(4000)(self.reduce)
+        self.reduced = functools.lru_cache(500)(self.reduce)
 
     def newton(self, found, sign, k):
         """The value of h_k or e_k by Newton's identities; those before it are found."""
