@@ -1,8 +1,12 @@
-"""The commands of calc, as check/table reads them: their words, partitions, permutations, tableaux and expressions."""
+"""The commands of calc, as check/table reads them: their words, partitions, permutations, tableaux and expressions. An expression such as
+2*s[2,1]-1/3*h[3] is read as a tree, with the names of `Phrase` of the definitions: ("numeral", "2"), ("ratio", "1", "3"),
+("label", ("schurs",), ["2", "1"]), ("brackets", e), ("minus_first", e), ("operation", ("plus",), e, f)."""
 import re
 from fractions import Fraction
 
-from expressions import BASES, Reader
+BASES = {"m": "monomials", "e": "elementaries", "h": "completes", "p": "power_sums", "s": "schurs"}
+SIGNS = {"+": "plus", "-": "minus", "*": "times"}
+WORD = re.compile(r"[mehps]\[(?:[0-9]+(?:,[0-9]+)*)?\]|[0-9]+(?:/[0-9]+)?|.", re.S)
 
 
 class Unreadable(Exception):
@@ -31,24 +35,21 @@ def numbers(words):
     return tuple(map(int, words))
 
 
-def partition(items):
-    items = without_last(0, items)
-    if any(a < b for a, b in zip(items, items[1:])):
-        raise Unreadable(f"{shown(items)} is no partition")
+def without_last(number, items):
+    """The list without this number at its end."""
+    while items and items[-1] == number:
+        items = items[:-1]
     return items
 
 
-def without_last(number, items):
-    """The list without this number at its end."""
-    items = list(items)
-    while items and items[-1] == number:
-        items.pop()
-    return tuple(items)
+def partition(items):
+    if any(a < b for a, b in zip(items, items[1:])):
+        raise Unreadable(f"{shown(items)} is no partition")
+    return without_last(0, items)
 
 
 def permutation(items):
     """A permutation without fixed letters at its end, but with the letter 1."""
-    items = tuple(items)
     if sorted(items) != list(range(1, len(items) + 1)) or not items:
         raise Unreadable(f"{shown(items)} is no permutation")
     while len(items) > 1 and items[-1] == len(items):
@@ -58,29 +59,57 @@ def permutation(items):
 
 def split(words, mark):
     """The lists of words between the marks."""
-    parts = [[]]
-    for it in words:
-        if it == mark:
-            parts.append([])
-        else:
-            parts[-1].append(it)
-    return parts
+    ends = [at for at, it in enumerate(words) if it == mark] + [len(words)]
+    return [words[start + 1:end] for start, end in zip([-1, *ends], ends)]
 
 
-def rows_of(words):
-    """The rows of a tableau."""
-    rows = split(words, "/")
-    if not all(rows):
+def rows_of(words, is_skew=True):
+    """The rows of a tableau; only one that is skew may have empty rows."""
+    parts = split(words, "/")
+    rows = tuple(() if it == ["."] else numbers(it) for it in parts)
+    if parts != [["."]] and not (all(parts) and (is_skew or all(rows))):
         raise Unreadable("a row of a tableau is missing")
-    return () if rows == [["."]] else tuple(() if it == ["."] else numbers(it) for it in rows)
+    return rows if parts != [["."]] else ()
 
 
-def tableau(words):
-    """The rows of a tableau that is not skew."""
-    rows = rows_of(words)
-    if () in rows:
-        raise Unreadable("a row of a tableau is empty")
-    return rows
+class Reader:
+    """Reads a text; ValueError says where it is no expression."""
+
+    def __init__(self, text):
+        self.text, self.words = text, WORD.findall(text)[::-1]
+
+    def whole(self):
+        found = self.sum()
+        return found if not self.words else self.fail()
+
+    def fail(self):
+        raise ValueError(f"the expression {self.text} cannot be read {len(''.join(self.words).encode())} bytes before its end")
+
+    def has(self, signs):
+        """The next word if it is one of these signs, which is then taken."""
+        return self.words.pop() if self.words and self.words[-1] in signs else ""
+
+    def sum(self):
+        return self.joined("+-", self.product, ("minus_first", self.product()) if self.has("-") else self.product())
+
+    def product(self):
+        return self.joined("*", self.factor, self.factor())
+
+    def joined(self, signs, read, found):
+        while sign := self.has(signs):
+            found = ("operation", (SIGNS[sign],), found, read())
+        return found
+
+    def factor(self):
+        if self.has("("):
+            found = ("brackets", self.sum())
+            return found if self.has(")") else self.fail()
+        if not self.words or len(self.words[-1]) == 1 and self.words[-1] not in "0123456789":
+            self.fail()
+        word = self.words.pop()
+        if word[-1] == "]":
+            return "label", (BASES[word[0]],), re.findall("[0-9]+", word)
+        return ("ratio", *word.split("/")) if "/" in word else ("numeral", word)
 
 
 def fold(tree, of_number, of_label, signs):
@@ -109,20 +138,17 @@ def expression(words):
         raise Unreadable(f"{why}") from why
 
 
-def read_by(read):
-    return lambda words: read(numbers(words))
-
-
+PARTITION, PERMUTATION = (lambda words: partition(numbers(words))), (lambda words: permutation(numbers(words)))
 # the name of a command: the kind of its labels, the sign between its parts, the least and the greatest number of these, and what reads a part
 COMMANDS = {
-    "mult": ("partition", "-", 2, 8, read_by(partition)), "skew": ("partition", "/", 2, 2, read_by(partition)),
-    "coef": ("number", "-", 3, 3, read_by(partition)), "coprod": ("pair", "-", 1, 1, read_by(partition)),
-    "quantum": ("power", "-", 2, 8, read_by(partition)), "fusion": ("partition", "-", 2, 8, read_by(partition)),
-    "schubert": ("monomial", "-", 1, 1, read_by(permutation)), "schubmult": ("permutation", "-", 2, 2, read_by(permutation)),
-    "dschubmult": ("shift", "-", 2, 2, read_by(permutation)), "stanley": ("partition", "-", 1, 1, read_by(permutation)),
+    "mult": ("partition", "-", 2, 8, PARTITION), "skew": ("partition", "/", 2, 2, PARTITION),
+    "coef": ("number", "-", 3, 3, PARTITION), "coprod": ("pair", "-", 1, 1, PARTITION),
+    "quantum": ("power", "-", 2, 8, PARTITION), "fusion": ("partition", "-", 2, 8, PARTITION),
+    "schubert": ("monomial", "-", 1, 1, PERMUTATION), "schubmult": ("permutation", "-", 2, 2, PERMUTATION),
+    "dschubmult": ("shift", "-", 2, 2, PERMUTATION), "stanley": ("partition", "-", 1, 1, PERMUTATION),
     "expand": ("partition", None, 1, 1, expression), "plethysm": ("partition", None, 2, 2, expression),
-    "tab": ("text", "-from", 2, 3, rows_of), "rect": ("text", "-", 3, 3, rows_of), "unrsk": ("text", "-", 2, 2, tableau),
-    "rsk": ("text", "-", 1, 1, numbers), "growth": ("text", "-", 1, 1, read_by(permutation)),
+    "tab": ("text", "-from", 2, 3, rows_of), "rect": ("text", "-", 3, 3, rows_of), "unrsk": ("text", "-", 2, 2, lambda words: rows_of(words, False)),
+    "rsk": ("text", "-", 1, 1, numbers), "growth": ("text", "-", 1, 1, PERMUTATION),
 }
 
 

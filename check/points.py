@@ -46,50 +46,46 @@ class Point:
     in every number of variables."""
 
     def __init__(self, modulus, power):
-        self.modulus, self.power, self.width = modulus, power, 0
-        self.ps, self.hs, self.es, self.monomials = [None], [1], [1], {(): 1}
-        self.eliminated = functools.lru_cache(2000)(self.eliminate)
+        self.modulus, self.monomials = modulus, {(): 1}
+        self.h, self.e = functools.partial(self.newton, [1], 1), functools.partial(self.newton, [1], -1)
+        self.p = functools.lru_cache(None)(lambda k: power(k) % modulus)
+        self.row = functools.lru_cache(None)(lambda l, columns: [self.h(l + c) for c in columns])
+        self.reduced = functools.lru_cache(500)(self.reduce)
 
-    def p(self, k):
-        while len(self.ps) <= k:
-            self.ps.append(self.power(len(self.ps)) % self.modulus)
-        return self.ps[k]
-
-    def newton(self, found, k, sign):
-        """The value of h_k or e_k by Newton's identities."""
-        self.p(max(k, 1))
+    def newton(self, found, sign, k):
+        """The value of h_k or e_k by Newton's identities; those before it are found."""
         while len(found) <= k:
             n = len(found)
-            found.append(sum(sign ** (i + 1) * self.ps[i] * found[n - i] for i in range(1, n + 1)) * pow(n, -1, self.modulus) % self.modulus)
+            total = sum(sign ** (i + 1) * self.p(i) * found[n - i] for i in range(1, n + 1))
+            found.append(total * pow(n, -1, self.modulus) % self.modulus)
         return found[k] if k >= 0 else 0
 
-    def h(self, k):
-        return self.newton(self.hs, k, 1)
-
-    def e(self, k):
-        return self.newton(self.es, k, -1)
-
-    def eliminate(self, outer, inner):
-        """The last row of the Jacobi–Trudi matrix after elimination by the rows before it, divided by its pivot; and the determinant. The leading
-        minors are skew Schur functions too, and if one is 0, so is the next: no exchange of rows is needed."""
-        i, value = len(outer) - 1, 1
-        row = [self.hs[k] if k >= 0 else 0 for k in range(outer[-1] - i, outer[-1] - i + len(inner))] if not any(inner) else [
-            self.h(outer[-1] - i - b + j) for j, b in enumerate(inner)]
-        for k in range(i):
-            upper, value = self.eliminated(outer[:k + 1], inner)
-            if not value:
-                return [], 0
-            first, *row = row
-            row = [(a - first * b) % self.modulus for a, b in zip(row, upper)]
-        inverse = pow(row[0], -1, self.modulus) if row[0] else 0
-        return [it * inverse % self.modulus for it in row[1:]], value * row[0] % self.modulus
+    def reduce(self, rows, columns):
+        """A minor of the matrix of the h_(l + c) for the rows l and as many of the columns c, with its sign, and combinations of the columns, one
+        for each other column, that are 0 in these rows: Gauss's elimination, row by row. Labels share the first rows."""
+        if not rows:
+            return 1, [[i == j for j in range(len(columns))] for i in range(len(columns))]
+        (value, vectors), row, modulus = self.reduced(rows[:-1], columns), self.row(rows[-1], columns), self.modulus
+        found = [sum(map(operator.mul, row, it)) % modulus for it in vectors]
+        at = next((i for i, it in enumerate(found) if it), None)
+        if at is None:
+            return 0, []
+        pivot, inverse, others = vectors[at], pow(found[at], -1, modulus), []
+        for c, it in zip(found[:at] + found[at + 1:], vectors[:at] + vectors[at + 1:]):
+            c = c * inverse % modulus
+            others.append([(a - c * b) % modulus if b else a for a, b in zip(it, pivot)])
+        return value * (-1) ** at * found[at] % modulus, others
 
     def s(self, outer, inner=()):
-        """The Schur function or skew Schur function."""
+        """The Schur function or skew Schur function: the determinant of Jacobi and Trudi."""
         if len(inner) > len(outer) or any(a < b for a, b in zip(outer, inner)):
             return 0
-        self.h(sum(outer[:1]) + max(self.width, len(outer)))
-        return self.eliminated(outer, inner + (0,) * (max(self.width, len(outer)) - len(inner)))[1] if outer else 1
+        rows, columns = tuple(a - i for i, a in enumerate(outer)), tuple(j - b for j, b in enumerate(inner + (0,) * (len(outer) - len(inner))))
+        value, vectors = self.reduced(rows[:-2], columns)
+        if not vectors:
+            return value
+        last = [[sum(map(operator.mul, self.row(l, columns), it)) for it in vectors] for l in rows[-2:]]
+        return value * (last[0][0] * last[1][1] - last[0][1] * last[1][0] if last[1:] else last[0][0]) % self.modulus
 
     def augmented(self, parts):
         """The sum over different variables of x_1^a·x_2^b·.. for the parts a, b, .. ."""
@@ -106,12 +102,13 @@ class Point:
         return self.augmented(parts) * pow(repeated, -1, self.modulus)
 
     def of(self, basis, parts):
-        return getattr(self, basis)(parts) if basis in "sm" else functools.reduce(lambda a, k: a * getattr(self, basis)(k) % self.modulus, parts, 1)
+        value = getattr(self, basis)
+        return value(parts) if basis in "sm" else functools.reduce(lambda a, k: a * value(k) % self.modulus, parts, 1)
 
     def sum(self, basis, terms):
         """The sum of the terms. In this order the determinants have most rows in common."""
-        self.width = max([self.width] + [len(label) for _, label in terms])
-        return sum(modulo(c, self.modulus) * self.of(basis, label) for c, label in sorted(terms, key=operator.itemgetter(1))) % self.modulus
+        terms = sorted(terms, key=lambda it: (len(it[1]), it[1]))
+        return sum(modulo(c, self.modulus) * self.of(basis, label) for c, label in terms) % self.modulus
 
     def value(self, tree):
         """The value of an expression."""
@@ -185,50 +182,22 @@ def sides(claim, terms, modulus):
     }[claim.name]()
 
 
-# ---- quantum and fusion products: at each set of K different n-th roots, one of each orbit of rotations
-
-def at_each(powers, k, forms, modulus):
-    """The values of alternating forms at each choice of k of the numbers, the first of them among these; `powers` has the powers of each. A form has
-    the coefficients of determinants det(x_i^(l_j)); it is contracted by one number after another."""
-    def walk(start, left, forms):
-        if not left:
-            yield [form.get((), 0) for form in forms]
-            return
-        for at in range(start, len(powers)) if left < k else (0,):
-            yield from walk(at + 1, left - 1, [contracted(form, powers[at]) for form in forms])
-
-    def contracted(form, power):
-        found = defaultdict(int)
-        for exponents, c in form.items():
-            for j, a in enumerate(exponents):
-                rest = exponents[:j] + exponents[j + 1:]
-                found[rest] = (found[rest] + (-c if j % 2 else c) * power[a]) % modulus
-        return found
-    return walk(0, k, forms)
-
-
 def check_roots(claim, terms, modulus):
-    """Compares both sides at each tuple of roots, and says how many there were."""
-    k, n, factors = claim.sizes[0], sum(claim.sizes), [it for it in claim.data if len(it) <= claim.sizes[0]]
+    """Compares both sides of a quantum or fusion product at each set of K different n-th roots of 1 or -1, one of each orbit of rotations, and says
+    how many there were."""
+    k, n = claim.sizes[0], sum(claim.sizes)
     if math.comb(n, k) > MOST_TUPLES:
         raise Undecided(f"there are {math.comb(n, k)} tuples of roots of unity, and at most {MOST_TUPLES} are tried")
-    exponents = lambda shape: tuple(a + k - 1 - i for i, a in enumerate(shape + (0,) * (k - len(shape))))
-    table, shapes = Counter(), [label[1] if claim.kind == "power" else label for _, label in terms]
-    for (c, _), shape in zip(terms, shapes):
-        table[exponents(shape)] += modulo(c, modulus)
+    table = [(c, label[1] if claim.kind == "power" else label) for c, label in terms]
     roots = (pow(RANDOM.randrange(2, modulus), (modulus - 1) // (2 * n), modulus) for _ in itertools.count())
     root = next(it for it in roots if all(pow(it, 2 * n // q, modulus) != 1 for q in range(2, 2 * n + 1) if 2 * n % q == 0))
-    powers = [[pow(root, 2 * i + (claim.kind == "power" and k % 2 == 0), modulus)] for i in range(n)]
-    most = max([0] + [it[0] for it in shapes + factors if it]) + k
-    powers = [[pow(x, a, modulus) for a in range(most)] for x, in powers]
-    forms = [table, {exponents(()): 1}, *({exponents(it): 1} for it in factors)]
-    count = 0
-    for right, vandermonde, *left in at_each(powers, k, forms, modulus):
-        count += 1
-        value = math.prod(left) if len(factors) == len(claim.data) else 0
-        if (value - right * vandermonde ** (len(claim.data) - 1)) % modulus:
+    rotations = lambda places: (tuple(sorted((it - first) % n for it in places)) for first in places)
+    tuples = [it for it in itertools.combinations(range(n), k) if it == min(rotations(it))]
+    for count, places in enumerate(tuples, 1):
+        at = point_at(modulus, [pow(root, 2 * it + (claim.kind == "power" and k % 2 == 0), modulus) for it in places])
+        if (math.prod(map(at.s, claim.data)) - at.sum("s", table)) % modulus:
             raise Wrong(f"the two sides differ at the tuple of roots of unity number {count}")
-    return f"each of {count} tuples of roots of unity"
+    return f"each of {len(tuples)} tuples of roots of unity"
 
 
 # ---- any claim
@@ -253,8 +222,9 @@ def must_occur(claim, label, degree):
 def compare(claim, terms):
     """Ends if both sides are equal: what was tried, and the logarithm, base 2, of a bound for the probability that a wrong table passes."""
     degree, step = claim.degree(), 2 * sum(claim.sizes) or 1
-    for _, label in terms:
-        must_occur(claim, label, degree)
+    for c, label in terms:
+        if c:
+            must_occur(claim, label, degree)
     size = max([degree, claim.variables or 0] + [size_of(label) for _, label in terms])
     if size > (MOST_DEGREE if claim.kind in ("partition", "pair", "power") else MOST_SIZE):
         raise Undecided(f"a degree or a number of variables of {size} is too large")

@@ -4,7 +4,7 @@ import itertools
 import re
 from collections import Counter
 
-from claims import Undecided, Unreadable, Wrong, numbers, partition, rows_of, shown, tableau, without_last
+from claims import Undecided, Unreadable, Wrong, numbers, partition, rows_of, shown, without_last
 
 MOST_STEPS, MOST_LETTERS = 500000, 40
 
@@ -13,20 +13,18 @@ MOST_STEPS, MOST_LETTERS = 500000, 40
 
 def signed_contents(outer, inner):
     """The contents in the Jacobi–Trudi determinant of outer/inner, each with its sign: s is the sum of the signed h of them."""
-    n, found, steps = len(outer), Counter(), itertools.count()
-    inner += (0,) * (n - len(inner))
-
-    def place(i, free, sign, content):
-        if next(steps) > MOST_STEPS:
+    n, states = len(outer), {((), ()): 1}  # (columns that are taken, and the parts)
+    for i, b in enumerate(inner + (0,) * (n - len(inner))):
+        found = Counter()
+        for ((taken, parts), sign), j in itertools.product(states.items(), range(n)):
+            part = outer[j] - j - b + i
+            if j not in taken and part >= 0:
+                larger = tuple(sorted((*parts, *[part] * (part > 0)), reverse=True))
+                found[tuple(sorted((*taken, j))), larger] += -sign if sum(it > j for it in taken) % 2 else sign
+        states = found
+        if len(states) > MOST_STEPS // 20:
             raise Undecided("the count has too many steps")
-        if i == n:
-            found[tuple(sorted((it for it in content if it), reverse=True))] += sign
-        for at, j in enumerate(free):
-            part = outer[j] - j - inner[i] + i
-            if part >= 0:
-                place(i + 1, free[:at] + free[at + 1:], -sign if at % 2 else sign, [*content, part])
-    place(0, list(range(n)), 1, [])
-    return found
+    return {parts: c for (_, parts), c in states.items()}
 
 
 @functools.lru_cache(None)
@@ -88,26 +86,26 @@ def greene(word):
     return tuple(shape)
 
 
-def is_semistandard(rows, inner=()):
-    inner = tuple(inner) + (0,) * (len(rows) - len(inner))
+def is_tableau(rows, outer, inner=()):
+    """Whether the rows are a semistandard tableau of a skew shape; one without a cell has no rows."""
+    inner += (0,) * (len(outer) - len(inner))
+    lengths = [a - b for a, b in zip(outer, inner)]
+    if len(inner) > len(outer) or min(lengths, default=0) < 0 or [len(it) for it in rows] != lengths and (rows or any(lengths)):
+        return False
     cells = {(i, inner[i] + j): a for i, row in enumerate(rows) for j, a in enumerate(row)}
     return all(cells.get((i, j - 1), 0) <= a and cells.get((i - 1, j), 0) < a for (i, j), a in cells.items())
 
 
-def must_match(rows, what, entries, word_up_to):
-    """The rows are a semistandard tableau with these entries, and those up to each of them have the shape of a word."""
-    if not is_semistandard(rows) or sorted(entries) != sorted(a for row in rows for a in row):
-        raise Wrong(f"{what} is no tableau with the right entries")
-    for most in sorted(set(entries)):
-        if greene(word_up_to(most)) != tuple(it for it in (sum(a <= most for a in row) for row in rows) if it):
-            raise Wrong(f"the entries up to {most} have another shape in {what}")
-
-
-def must_be_pair(word, p, q):
-    """p is the insertion tableau and q, if there is one, the recording tableau of the word."""
-    must_match(p, "P", word, lambda letter: [a for a in word if a <= letter])
-    if q is not None:
-        must_match(q, "Q", range(1, len(word) + 1), lambda k: word[:k])
+def must_be_pair(word, p, q=None):
+    """p is the insertion tableau and q, if there is one, the recording tableau of the word: their entries up to each number have the shapes of the
+    letters up to it, and of the word up to it."""
+    pairs = [("P", p, word, lambda most: [a for a in word if a <= most]), ("Q", q, range(1, len(word) + 1), lambda most: word[:most])]
+    for name, rows, entries, part in pairs[:1 if q is None else 2]:
+        if not is_tableau(rows, tuple(map(len, rows))) or sorted(entries) != sorted(a for row in rows for a in row):
+            raise Wrong(f"{name} is no tableau with the right entries")
+        for most in sorted(set(entries)):
+            if greene(part(most)) != tuple(it for it in (sum(a <= most for a in row) for row in rows) if it):
+                raise Wrong(f"the entries up to {most} have another shape in {name}")
 
 
 def lines_in(text, count):
@@ -126,14 +124,14 @@ def check_text(claim, text):
         lines = lines_in(text, 2)
         if [it[:2] for it in lines] != ["P ", "Q "]:
             raise Unreadable("a line `P ..` and a line `Q ..` are wanted")
-        must_be_pair(data[0], *(tableau(it[2:].split()) for it in lines))
+        must_be_pair(data[0], *(rows_of(it[2:].split(), False) for it in lines))
     elif claim.name == "unrsk":
         must_be_pair(numbers(lines_in(text, 1)[0].split()), *data)
     elif claim.name == "rect":
         outer, inner, rows = data
-        if len(inner) > len(outer) or min(lengths(outer, inner), default=0) < 0 or not is_of_shape(rows, outer, inner) or not is_semistandard(rows, inner):
+        if not is_tableau(rows, outer, inner):
             raise Unreadable("the tableau of the command is not semistandard, or not of the shape")
-        must_be_pair([a for row in reversed(rows) for a in row], tableau(lines_in(text, 1)[0].split()), None)
+        must_be_pair([a for row in reversed(rows) for a in row], rows_of(lines_in(text, 1)[0].split(), False))
     else:
         for i, line in enumerate(lines_in(text, len(data[0]) + 1)):
             shapes = [partition(numbers(re.findall("[0-9]+", it))) for it in line.split(" ")]
@@ -145,32 +143,21 @@ def check_text(claim, text):
     return "each shape is that of Greene's theorem"
 
 
-def lengths(outer, inner):
-    """The numbers of cells of the rows of outer/inner."""
-    return [a - b for a, b in zip(outer, inner + (0,) * len(outer))]
-
-
-def is_of_shape(rows, outer, inner):
-    """Whether the rows have these numbers of cells; a tableau without a cell has no rows."""
-    return [len(it) for it in rows] == lengths(outer, inner) or not rows and all(it <= 0 for it in lengths(outer, inner))
-
-
 def check_tableaux(outer, inner, text, last):
     """Checks the lines of `tab`: lattice tableaux, in their order, and their number."""
     readings = []
     for at, line in enumerate([] if text == "0\n" else text.rstrip("\n").split("\n"), 1):
         rows = rows_of(line.split())
-        if not is_of_shape(rows, outer, inner):
+        if not is_tableau(rows, outer, inner):
             raise Wrong(f"line {at} is no tableau of the shape")
         starts = inner + (0,) * len(rows)
         cells = sorted((-starts[i] - j, i, a) for i, row in enumerate(rows) for j, a in enumerate(row))
-        reading, counts, is_good = [a for _, _, a in cells], Counter({0: len(cells)}), is_semistandard(rows, inner)
-        for a in reading:
+        counts = Counter({0: len(cells)})
+        for _, _, a in cells:
             counts[a] += 1
-            is_good = is_good and counts[a] <= counts[a - 1]
-        if not is_good:
-            raise Wrong(f"line {at} is no lattice tableau")
-        readings.append(reading)
+            if counts[a] > counts[a - 1]:
+                raise Wrong(f"line {at} is no lattice tableau")
+        readings.append([a for _, _, a in cells])
     if any(a >= b for a, b in zip(readings, readings[1:])):
         raise Wrong("the tableaux are not in the order of their column readings, or one stands twice")
     if last:

@@ -126,7 +126,7 @@ def contents(program, library, tag):
     files = {f"yorqanish/{name}": content_of(f"{folder}/{name}") for name in sorted(os.listdir(folder)) if name.endswith((".py", ".typed"))}
     files["yorqanish/VERSION"] = f"{version()}\n".encode()
     if os.path.exists(f"{TOP}/check/table"):
-        names = ("table", "claims.py", "expressions.py", "points.py", "tableaux.py")
+        names = ("table", "claims.py", "points.py", "tableaux.py")
         files.update({f"yorqanish/checks/{it}": content_of(f"{TOP}/check/{it}") for it in names})
     for path, names in ((program, PROGRAMS), (library, LIBRARIES)):
         if path:
