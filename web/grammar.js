@@ -167,6 +167,7 @@ function isSound(words) {
   const inBounds = ({ role, words: given }) => {
     const numbers = given.map(plainNumber);
     if (role === "partition") return numbers.length <= LIMITS.parts && sumOf(numbers) <= LIMITS.cells && isDecreasing(numbers);
+    if (role === "expression" && degreeOf(given[0]) > degreeAllowed(parts.find((it) => it.role === "basis").words[0])) return false;
     if (EXPRESSIONS.includes(role)) return [...given[0].matchAll(/\[([\d,]+)\]/g)].every(([, list]) => isDecreasing(list.split(",")));
     if (role === "permutation") return numbers.length <= lettersAllowed(words[0]) && isPermutation(numbers);
     if (["rows", "columns", "level", "variables"].includes(role)) return Number(numbers[0]) >= 1 && Number(numbers[0]) <= LIMITS.rows;
