@@ -162,7 +162,6 @@ function classCoefficient(list, lists, space, q = 0) {
   if (!made || ![at, ...classes].every((it) => isPartition(it) && isInBox(it, space))) return null;
   return asking(made, { kind: "c", at: partition(at) }, sizeOfAll(classes) !== sumOf(at) + q * (space.rows + space.columns));
 }
-const quantumOf = (it, space) => doubtful(it, it && space ? classesIn(it.lists, { ...space, isQuantum: true }) : null);
 const fusionOf = (it, rows, level) => doubtful(it, it && areMany(it.lists) && it.lists.every(isPartition) ? reading("fusion", plainNumber(rows), plainNumber(level), between(it.lists)) : null);
 const leastRows = (lists) => String(Math.max(1, ...lists.map((it) => it.length)));
 const leastColumns = (lists) => String(Math.max(1, ...lists.map((it) => Number(it[0] || 0))));
@@ -197,6 +196,7 @@ function productWithNumbers(options, it) {
 const rowsText = (rows) => (rows.length === 0 ? ["."] : rows.flatMap((it, i) => [...(i > 0 ? ["/"] : []), ...(it.length > 0 ? it : ["."])]));
 
 const MEANINGS = {
+  ...{ typedWith, conjugate, timesText, powerOf, variables, kostkaOf, kostkaSkew, standardOf, characterOf, stanleyOf, boxOf, classesIn, classCoefficient, factorsOf, reading },
   // numbers and lists
   part: (number, times = "1") => (isPlain(number) ? copies(number, times) : null),
   partPower: (number, times) => (isPlain(number) ? eitherOf(copies(number, times), times.length > 1 && isDigits(times) && joined(copies(number, times[0]), [...times.slice(1)])) : null),
@@ -205,12 +205,9 @@ const MEANINGS = {
   letters: (number) => [...number],
   ones: (count) => copies("1", count),
   join: (a, b) => joined([].concat(a), [].concat(b)),
-  typed: typedWith,
-  none: () => [],
   point: () => typedWith("point", []),
   word: (text) => text,
   called: (list) => (list.length === 1 ? typedWith("called", list) : list),
-  conjugate,
   exponent: (times) => anyOf({ value: [times, ""] }, /^\d[1-9]\d*$/.test(times) && { value: [times[0], times.slice(1)] }),
   exponentBraced: (times) => [times, ""],
   list: (...all) => all,
@@ -224,16 +221,13 @@ const MEANINGS = {
     return made && family === "p" && list.filter((it) => Number(it) % 2 === 0).length % 2 === 1 ? expression(`-1*${made.text}`) : made;
   },
   paren: (it) => ({ ...it, text: `(${it.text})`, atoms: null, inside: it.text }),
-  power: powerOf,
   scalar: (number) => expression(number),
   fraction: (it, below) => expression(`${it.text}/${below}`),
-  times: timesText,
   minus: (it) => expression(`-${it.text}`, null, it),
   plus: (a, sign, b) => expression(a.text + sign + b.text, null, a, b),
   functor: (family, times) => expression(atomText(family, [times]), [["s", family === "h" ? [times] : copies("1", times)]]),
   vector: () => expression("s[1]", [["s", ["1"]]]),
   tensorPower: (times) => powerOf(MEANINGS.vector(), [times]),
-  basis: (name) => name,
   bare: (it) => (schurFactors(it) && areMany(it.atoms) ? productOf(listsOfAtoms(it)) : hasFunction(it.text) ? inEachBasis("expand", it.text) : null),
   inSchur: (it) => productOf(schurFactors(it)) || reading("expand s", it.text),
   expand: (basis, it) => reading("expand", basis, it.text),
@@ -259,13 +253,9 @@ const MEANINGS = {
   coefWithPair: (outer, factors) => inSomeOrder(coefOf([outer, ...factors]), [outer, ...factors]),
   coefficientIn: (atom, it) => coefficientOf(...atom.atoms[0], it),
   kostka: (lists) => kostkaOf(...lists),
-  kostkaOf,
-  kostkaSkew,
   kostkaAll: (numbers) => eitherOf(...numbers.slice(1).map((_, i) => kostkaOf(numbers.slice(0, i + 1), numbers.slice(i + 1))).filter((it) => it && !it.zero)),
-  standard: (list) => standardOf(list),
   standardSkew: ([outer, inner]) => (isPartition(outer) && isPartition(inner) && sumOf(inner) <= sumOf(outer) ? kostkaSkew([outer, inner], copies("1", sumOf(outer) - sumOf(inner))) : null),
-  standardOf: (list, letters) => (sumOf(list) === Number(letters) ? standardOf(list) : null),
-  character: characterOf,
+  standardOfSize: (list, letters) => (sumOf(list) === Number(letters) ? standardOf(list) : null),
   characterAtCycle: (list, cycle) => (Number(cycle) <= sumOf(list) ? characterOf(list, [cycle, ...(copies("1", sumOf(list) - Number(cycle)) || [])]) : null),
   characterOnly: (list) => (isPartition(list) ? eitherOf(standardOf(list), reading("expand p", atomText("s", list))) : null),
   inner: (a, b) => scalarProduct(a, b) || scalarProduct(b, a),
@@ -279,18 +269,14 @@ const MEANINGS = {
     return areLetters(lists) && lists.length === (name.endsWith("mult") ? 2 : 1) ? reading(name, between(lists)) : null;
   },
   schubertProduct: (lists) => (lists.length <= 2 ? MEANINGS.permuted(lists.length === 1 ? "schubert" : "schubmult", lists) : areLetters(lists) ? tooMuch("Two Schubert polynomials are multiplied at a time here.") : null),
-  stanley: stanleyOf,
   stanleyOrInverse: (w) => (isPermutation(w) ? eitherOf(stanleyOf(w), stanleyOf(inverseOf(w))) : null),
   nextLetter: (last, number) => (Number(number) === Number(last) + 1 ? number : null),
   rsk: (word) => (word.every((it) => Number(it) >= 1) ? reading("rsk", word) : null),
   // the Grassmannian and fusion
-  box: boxOf,
   grassmannian: (k, n) => boxOf(k, n - k),
   subspaces: (k, n) => boxOf(Number(k) + 1, n - k),
   space: (kind, space) => space && { ...space, isQuantum: kind === "quantum" },
-  inSpace: classesIn,
   integral: (lists, space) => classCoefficient(MEANINGS.point(), lists, space),
-  coefficientOfClass: classCoefficient,
   invariant: (a, b, c, q, space) => classCoefficient(space && dualOf(c, space), [a, b], space, Number(q)),
   degree: (space) => (space.rows * space.columns <= LIMITS.degree ? standardOf(rectangle(space), "degree") : tooMuch()),
   lines: (count, dimension) => MEANINGS.planes("2", Number(dimension) + 1, count, String(Number(dimension) - 1)),
@@ -307,20 +293,16 @@ const MEANINGS = {
   operand: (how, list) => list && { list, how },
   operandDigits: (list) => ({ list, how: list.length === 1 && list[0].length === 1 ? "one" : "digits" }),
   operandPower: (list, [times, rest]) => (rest || Number(times) < 2 || Number(times) > LIMITS.factors ? null : { list, how: "list", times: Number(times) }),
-  factors: factorsOf,
   emptyFirst: (operand) => factorsOf("dash", [{ list: [], how: "list" }, operand]),
-  rows: variables,
   onOneLine: (it) => (/^(?:mult|skew|expand) /.test(it.line) && !/ -m /.test(it.line) && !it.asked ? { ...it, line: it.line.replace(/^(\S+(?: -r \d+)?)/, "$1 -m") } : null),
   listOf: ({ list }) => list,
   schurOf: ({ list }) => MEANINGS.atom("s", list),
   mult: withOptions(productWithNumbers),
-  multInSpace: (it, space) => doubtful(it, classesIn(it.lists, space)),
   coefOf: (it) => inSomeOrder(doubtful(it, coefOf(it.lists)), it.lists),
-  coefInStar: (outer, factors) => coefOf([outer, ...factors].map((it) => it.list)),
   shapeOfTwo: (it) => (it.lists.length === 2 && ["side", "comma"].includes(it.sign) ? Object.assign([...it.lists], { isDoubtful: Boolean(it.isAlone || it.isDoubtful) }) : null),
   skewWith: withOptions((options, shape) => doubtful(shape, skewOf("skew", shape, options))),
-  quantum: (it, space, box) => (box && space && !(space.rows === box.rows && space.columns === box.columns) ? null : quantumOf(it, space)),
-  quantumLeast: (it, rows) => quantumOf(it, boxOf(rows ?? leastRows(it.lists), leastColumns(it.lists))),
+  productIn: (it, space, box) => (it && space && (!box || (space.rows === box.rows && space.columns === box.columns)) ? doubtful(it, classesIn(it.lists, space)) : null),
+  quantumLeast: (it, rows) => MEANINGS.productIn(it, MEANINGS.space("quantum", boxOf(rows ?? leastRows(it.lists), leastColumns(it.lists)))),
   fusion: (rows, level, it) => fusionOf(it, rows, level),
   fusionLeast: (it, rows) => fusionOf(it, rows ?? leastRows(it.lists), leastColumns(it.lists)),
   // tableaux
@@ -335,5 +317,4 @@ const MEANINGS = {
   tabNumber: (shape) => asking(skewOf("tab", shape), { kind: "count" }),
   tabContent: (shape, content) => coefOf([...shape, content]),
   lrcalc: (it) => (/^coprod/.test(it.line) ? anyOf({ value: it, isRepair: true }) : it),
-  reading,
 };

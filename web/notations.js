@@ -90,19 +90,19 @@ Loosely = Part , ␣Part -> join
 Inside "numbers" = Commas -> 1
   | Commas , -> 1  # (2,1,) of Python
   | Part , -> 1  # (21,): one part, whatever its digits
-  | Blanks -> typed blanks
-  | Compact -> typed digits
+  | Blanks -> typedWith blanks
+  | Compact -> typedWith digits
 Round = ( Inside ) -> 2
 Square = [ Inside ] -> 2
-Empty = ∅ -> none
-  | ( ) -> none
-  | [ ] -> none
-  | { } -> none
+Empty = ∅ -> list
+  | ( ) -> list
+  | [ ] -> list
+  | { } -> list
 List "a list" = Round -> 1
   | Square -> 1
   | { Inside } -> 2  # Mathematica
   | { Round } -> 2
-  | Empty -> none
+  | Empty -> 1
   | yng ( Inside ) -> 3  # \yng(2,1)
   | ydiagram { Inside } -> 3
 Lams = Lam , Lam -> list
@@ -115,7 +115,7 @@ Lam "a partition" = List -> 1
 Sub = Inside -> 1
   | Round -> 1
   | Square -> 1
-  | Empty -> none
+  | Empty -> 1
   | Inside Prime -> conjugate
   | Round Prime -> conjugate
   | yng ( Inside ) -> 3
@@ -127,11 +127,11 @@ Index "an index" = ~_ ~{ Sub } -> 3  # s_{2,1}
   | ~_ ~NUM -> digits  # s_21
   | ~_ ~Round -> 2
   | ~_ ~Square -> 2
-  | ~_ ~Empty -> none
+  | ~_ ~Empty -> list
   | ~_ ~Tight -> ? 2  # (a comma with two readings)
   | ~Square -> 1  # s[2,1]
-  | ~[ ~] -> none
-  | ~∅ -> none
+  | ~[ ~] -> list
+  | ~∅ -> list
   | ~[ { Inside } ] -> 3  # s[{2,1}], Mathematica
   | ~( Inside ) -> called  # s(2,1)
   | ~( Square ) -> 2  # s([2,1]), Sage
@@ -175,32 +175,32 @@ Base = Atom -> 1
   | ( Sum ) -> paren
 Power = Base -> 1
   | SM IndexPower -> atom  # s_1^3 (and no further exponent)
-  | Base Exp -> power
+  | Base Exp -> powerOf
 Number = NUM -> scalar
 Scalar = Number -> 1
-  | Number Exp -> power
+  | Number Exp -> powerOf
 Factor "a factor" = Power -> 1
   | Scalar -> 1
   | Scalar / NUM -> fraction
   | frac { Scalar } { NUM } -> fraction
 Term = Factor -> 1
-  | Term * Factor -> times
-  | Term ∗ Factor -> ? times  # or the internal product
-  | Term Power -> times  # h_3 e_2, 2 s_1
-  | Term Scalar -> ! times  # h[2]^{2}3
+  | Term * Factor -> timesText
+  | Term ∗ Factor -> ? timesText  # or the internal product
+  | Term Power -> timesText  # h_3 e_2, 2 s_1
+  | Term Scalar -> ! timesText  # h[2]^{2}3
 Sum "an expression" = Term -> 1
   | - Term -> minus
   | Sum Sign Term -> plus
 Basis "a basis" = Family -> 1
   | Family ~_ Greek -> 1  # m_λ
   | Family ~_ ~{ Greek } -> 1
-  | monomial|monomials -> basis m
-  | elementary|elementaries -> basis e
-  | complete homogeneous? -> basis h
-  | homogeneous|homogeneouses -> basis h
-  | power -? sum|sums -> basis p
-  | powersum|powersums -> basis p
-  | schur|schurs -> basis s
+  | monomial|monomials -> word m
+  | elementary|elementaries -> word e
+  | complete homogeneous? -> word h
+  | homogeneous|homogeneouses -> word h
+  | power -? sum|sums -> word p
+  | powersum|powersums -> word p
+  | schur|schurs -> word s
   | Basis functions|polynomials|basis -> 1
   | Basis - basis -> 1  # s-basis
   | Basis symmetric functions|polynomials -> 1
@@ -254,10 +254,10 @@ SProduct = S Index -> list
   | S Index Exp -> listPower
 InVariables = in NUM variables|vars|variable -> 2
 SPair = S Index and S Index -> list 2 5
-Several = Power , Power -> times
-  | Several , Power -> times
-And = Power By Power -> times
-  | Several ,? and Power -> times
+Several = Power , Power -> timesText
+  | Several , Power -> timesText
+And = Power By Power -> timesText
+  | Several ,? and Power -> timesText
 SAtom = s Index -> atom s
 OfIndex = Index -> atom s
 OfArg = Arg -> atom s
@@ -320,7 +320,7 @@ Cell = Compact -> 1
   | Round -> 1
   | Square -> 1
   | { Inside } -> 2
-  | ∅ -> none
+  | ∅ -> list
 Cells = Cell , Cell -> list  # 21,21
   | Cell ␣Cell -> list
   | Bracketed ~Bracketed -> list
@@ -378,26 +378,26 @@ OfShape = of -> ""
 OfContent = ,|and|with? content|weight|type -> ""
 Question = Count Semistandard OfShape? Arg OfContent Arg -> kostkaOf 4 6
   | Count Semistandard OfShape? Skew OfContent Arg -> kostkaSkew 4 6
-  | Count Standard OfShape? Arg -> standard 4
-  | Count tableaux OfShape? Arg -> standard 4
-  | standardtableaux ( Inner ) Cardinality -> standard
+  | Count Standard OfShape? Arg -> standardOf 4
+  | Count tableaux OfShape? Arg -> standardOf 4
+  | standardtableaux ( Inner ) Cardinality -> standardOf
   | semistandardtableaux ( Inner , Inner ) Cardinality -> kostkaOf
   | Count Standard OfShape? Skew -> standardSkew 4
-  | Count syt ( Arg ) -> standard 4
+  | Count syt ( Arg ) -> standardOf 4
   | all? Semistandard OfShape? Arg OfContent Arg -> ! kostkaOf
   | all? Semistandard OfShape? Skew OfContent Arg -> ! kostkaSkew
   | ssyt ( Inner , Inner ) -> ! kostkaOf
-  | all? Standard OfShape? Arg -> ! standard
-Question = f Upper -> standard  # f^{(3,2,1)}
-  | f ~^ ~Digits -> ? standard  # f^2: or a square
+  | all? Standard OfShape? Arg -> ! standardOf
+Question = f Upper -> standardOf  # f^{(3,2,1)}
+  | f ~^ ~Digits -> ? standardOf  # f^2: or a square
   | f ~^ ~{ Shapes } -> standardSkew 4
-  | hook length formula? of|for|: dimension? of? Arg -> standard 7
-  | dimension of? specht module? Arg -> standard 5
-  | dimension of? S Above -> standard 4
-  | dimension of? irrep|representation|module|irreducible specht|representation|module? Arg -> ? standard 5  # of which group?
-  | dimension of? Irreducible? labelled? by? Arg OfS -> standardOf 6 7
-  | dimension of? Irreducible OfS labelled|for? by? Arg -> standardOf 7 4
-  | dimension of? Arg -> ? standard 3
+  | hook length formula? of|for|: dimension? of? Arg -> standardOf 7
+  | dimension of? specht module? Arg -> standardOf 5
+  | dimension of? S Above -> standardOf 4
+  | dimension of? irrep|representation|module|irreducible specht|representation|module? Arg -> ? standardOf 5  # of which group?
+  | dimension of? Irreducible? labelled? by? Arg OfS -> standardOfSize 6 7
+  | dimension of? Irreducible OfS labelled|for? by? Arg -> standardOfSize 7 4
+  | dimension of? Arg -> ? standardOf 3
 Irreducible = irrep|representation|module -> ""
   | irreducible|specht representation|module? -> ""
 OfS = of|for symmetric? group? S ~_ ~NUM -> 6
@@ -410,14 +410,14 @@ AtClass = at|on|for cycle|conjugacy? type|class? -> ""
 Cycle = NUM - cycle -> 1
   | transposition -> word "2"
   | identity -> word "1"
-Question = χ Above ~( Inside ) -> character  # χ^{31}(22)
-  | χ Above ~( Round ) -> character
-  | χ Above Lower -> character
-  | χ Lower Above -> character 3 2
+Question = χ Above ~( Inside ) -> characterOf  # χ^{31}(22)
+  | χ Above ~( Round ) -> characterOf
+  | χ Above Lower -> characterOf
+  | χ Lower Above -> characterOf 3 2
   | χ Above -> ? characterOnly
-  | Character? χ Above AtClass Arg -> character 3 5
+  | Character? χ Above AtClass Arg -> characterOf 3 5
   | Character? χ Above AtClass Cycle -> characterAtCycle 3 5
-  | Character Arg AtClass Arg -> character 2 4
+  | Character Arg AtClass Arg -> characterOf 2 4
   | Character Arg AtClass Cycle -> characterAtCycle 2 4
   | Character Arg -> ? characterOnly 2
   | < Sum , Sum > -> inner
@@ -461,12 +461,12 @@ Question = SPolys -> schubertProduct
   | product of? schubert polynomials of? for? WOther -> permuted schubmult
   | schubert polynomials of? for? OfW? WPerm -> permuted schubert 6
   | F Perm -> ? stanleyOrInverse  # F_{321}: of Stanley, or fundamental
-  | F Perm InVariables -> ? stanley
-  | F Perm ~( Letters ) -> ? stanley
-  | Stanley F Perm -> stanley
-  | Stanley F Perm InVariables -> stanley
-  | Stanley of? for? OfW? WPerm -> stanley 5
-  | Stanley of? for? OfW? WPerm InVariables -> stanley 5 6
+  | F Perm InVariables -> ? stanleyOf
+  | F Perm ~( Letters ) -> ? stanleyOf
+  | Stanley F Perm -> stanleyOf
+  | Stanley F Perm InVariables -> stanleyOf
+  | Stanley of? for? OfW? WPerm -> stanleyOf 5
+  | Stanley of? for? OfW? WPerm InVariables -> stanleyOf 5 6
 Letters = x ~_ ~NUM -> nextLetter "0"
   | Letters , x ~_ ~NUM -> nextLetter
 Stanley = stanley symmetric? functions? -> ""
@@ -479,8 +479,8 @@ GrOf "Gr(k,n)" = Gr ( NUM , NUM ) -> grassmannian
   | 𝔾 ( NUM , NUM ) -> subspaces  # of projective subspaces, or as Gr
   | grassmannian? G|𝔾 ( NUM , NUM ) -> grassmannian
   | grassmannian? G ( NUM , NUM ) -> subspaces
-  | P ~^ ~NUM -> box "1"  # P^2
-  | P ~^ ~{ NUM } -> box "1"
+  | P ~^ ~NUM -> boxOf "1"  # P^2
+  | P ~^ ~{ NUM } -> boxOf "1"
   | Gr|G ( NUM , NUM ) -> ! grassmannian 5 3
 Star = ~Ast -> ""
   | ~^ ~Ast -> ""
@@ -516,21 +516,21 @@ Classes = ClassPower -> 1
 ClassPair = Classes By Classes -> addAll
 ProductOf = cup? product of? -> ""
   | multiply -> ""
-Question = Classes ,|:? Where -> inSpace
-  | Where ,|:? Classes -> inSpace 3 1
-  | Where ,|:? ProductOf ClassPair -> inSpace 4 1
-  | ProductOf ClassPair ,? Where -> inSpace
-  | product of? Both Where -> inSpace
-  | quantum product of? Both QWhere -> inSpace
-  | quantum product of? ClassPair QWhere -> inSpace
-  | quantum ~: Classes QWhere -> inSpace
-  | Classes mod q ,? OWhere -> inSpace
-  | q - term of? Classes QWhere -> ? inSpace
+Question = Classes ,|:? Where -> classesIn
+  | Where ,|:? Classes -> classesIn 3 1
+  | Where ,|:? ProductOf ClassPair -> classesIn 4 1
+  | ProductOf ClassPair ,? Where -> classesIn
+  | product of? Both Where -> classesIn
+  | quantum product of? Both QWhere -> classesIn
+  | quantum product of? ClassPair QWhere -> classesIn
+  | quantum ~: Classes QWhere -> classesIn
+  | Classes mod q ,? OWhere -> classesIn
+  | q - term of? Classes QWhere -> ? classesIn
   | ∫ ~_ ~{ GrOf } Classes -> integral 6 4
   | ∫ ~_ ~GrOf Classes -> integral 4 3
   | Classes Where ,? coefficient of PointClass -> integral 1 2
   | coefficient of? PointClass in Classes Where -> integral 5 6
-  | coefficient of? Class in Classes Where -> coefficientOfClass
+  | coefficient of? Class in Classes Where -> classCoefficient
   | intersection number of? Classes Where -> integral 4 5
   | GwName? < Class , Class , Class > ~_ ~{ d = NUM } Where -> invariant
   | GwName? < Class , Class , Class > ~_ ~NUM Where -> invariant
@@ -563,7 +563,7 @@ Question = SProduct2 -> ! product  # σ_1^4: no Gr(k,n) is said
   | ListProduct InVariables -> product
   | Juxtaposed -> ? product  # (3,1)(2): a product of s, or of cycles
 # ---------------------------------------------------------------- modules of GL_n and of S_n
-Indexed = s|V Index -> typed index
+Indexed = s|V Index -> typedWith index
 Tensor = ListFactor ⊗ ListFactor -> addAll
   | Tensor ⊗ ListFactor -> addAll
   | Indexed ⊗ Indexed -> list
@@ -581,8 +581,8 @@ Cn = C ~^ ~NUM -> 3
   | ( C ~^ ~NUM ) -> 4
 Module = V -> vector
   | Functor V_ -> 1
-Modules = Module ⊗ Module -> times
-  | Modules ⊗ Module -> times
+Modules = Module ⊗ Module -> timesText
+  | Modules ⊗ Module -> timesText
   | V ~^ ~{ ⊗ NUM } -> tensorPower
 Composite = Functor ( Functor V_ ) -> composed
   | Functor ( V_ ) ( Functor V_ ) -> composed
@@ -671,7 +671,7 @@ CommaB = Loose , ␣Loose -> list  # 2 1, 2 1
   | CommaB , ␣Loose -> add
 CommaC = Loose , Loose -> list  # in the parentheses of a call: mult(2 1,2 1)
   | CommaC , Loose -> add
-Call = CommaC -> factors comma
+Call = CommaC -> factorsOf comma
 Side = Beside ␣Beside -> list
   | Operand Letter -> list
   | Beside Beside -> ! list  # 3,2(1)
@@ -682,27 +682,27 @@ Side = Beside ␣Beside -> list
   | Side ~Adjacent -> add
 Adjacent = Lam -> operand list
 SideComma = Side , Cut -> add  # (2,1) 1, 1
-Factors "lists" = Dash -> factors dash
+Factors "lists" = Dash -> factorsOf dash
   | - ␣Any -> ? emptyFirst  # an empty list first
-  | SideComma -> ? factors comma
-  | DashTight -> factors dash
-  | Star_ -> factors star
-  | Comma -> factors comma
-  | Side -> factors side
+  | SideComma -> ? factorsOf comma
+  | DashTight -> factorsOf dash
+  | Star_ -> factorsOf star
+  | Comma -> factorsOf comma
+  | Side -> factorsOf side
   | ( Call ) -> 2
-  | ( Side ) -> factors side
-  | ( Dash ) -> factors dash
-  | ( Star_ ) -> factors star
-  | Times -> factors star
+  | ( Side ) -> factorsOf side
+  | ( Dash ) -> factorsOf dash
+  | ( Star_ ) -> factorsOf star
+  | Times -> factorsOf star
 Opt = Rows -> 1
   | -m -> word -m
-Rows "the number of variables" = -r NUM -> rows
-  | in NUM variables -> rows
-  | , maxrows = NUM -> rows  # lrcalc in Python
+Rows "the number of variables" = -r NUM -> variables
+  | in NUM variables -> variables
+  | , maxrows = NUM -> variables  # lrcalc in Python
 Command = mult Opt? Opt? Factors Opt? Opt? -> mult
   | mult ( Call Rows ) -> mult
-  | mult Factors ,|:? Where -> multInSpace
-  | mult Where ,|:? Factors -> multInSpace 4 2
+  | mult Factors ,|:? Where -> productIn
+  | mult Where ,|:? Factors -> productIn 4 2
   | mult Skew -> ! skew  # mult (2,1)/(1)
   | mult Scaled -> ! expand s
   | mult SProduct -> ? multOfS  # S: of Schur or of Schubert
@@ -710,18 +710,21 @@ Command = mult Opt? Opt? Factors Opt? Opt? -> mult
 OfLam = Lam -> atom s
 OfAny = Any -> schurOf
 OfOperand = Operand -> schurOf
-Scaled = Scalar ~OfLam -> times  # mult 2(2,1) - 1: a coefficient
-  | Scalar ~SAtom -> times
-  | Negative ␣- ␣OfAny -> times
-  | Scaled ␣- ␣OfAny -> times
-  | Scaled Dot? OfOperand -> times
+Scaled = Scalar ~OfLam -> timesText  # mult 2(2,1) - 1: a coefficient
+  | Scalar ~SAtom -> timesText
+  | Negative ␣- ␣OfAny -> timesText
+  | Scaled ␣- ␣OfAny -> timesText
+  | Scaled Dot? OfOperand -> timesText
 Negative = - OfOperand -> minus
 Command = coef|lrcoef|LR Factors -> coefOf
-  | coef|coefficient of? Operand in Star_ -> coefInStar
-  | coef Star_ Operand -> coefInStar 3 2  # coef (2,1)*(2,1) (3,2,1): the product is one thing
+  | coef|coefficient of? OperandList in StarLists -> coef
+  | coef StarLists OperandList -> coef 3 2  # coef (2,1)*(2,1) (3,2,1): the product is one thing
   | skew Opt? Shape Opt? -> skewWith
   | coprod One -> coproduct
 AnyList = Any -> listOf
+OperandList = Operand -> listOf
+StarLists = AnyList *|∗|⊗ AnyList -> list
+  | StarLists *|∗|⊗ AnyList -> add
 Skew "a skew shape" = AnyList Over AnyList -> list
   | ( AnyList Over AnyList ) -> list
   | [ AnyList Over AnyList ] -> list
@@ -731,15 +734,15 @@ Shape "a skew shape" = Skew -> 1
   | [ Square , Square ] -> list
 One = AnyList -> 1
   | ( AnyList ) -> 2
-Box = NUM ,? NUM -> box
-Command = quantum Where ,|:? Factors -> quantum 4 2
-  | quantum Factors Where -> quantum
-  | quantum Where ,|:? Box Factors -> ? quantum 5 2 4  # the numbers of Gr(k,n) once more
-  | quantum Box Factors Where -> ? quantum 3 4 2
-  | quantum Box Factors -> quantum 3 2  # quantum 2 2 (2,1) (2,1)
-  | quantum ( Box , Call ) -> quantum 5 3
-  | quantum ( GrOf , Call ) -> quantum 5 3
-  | quantum ( Box ) Factors -> ! quantum 5 3
+Box = NUM ,? NUM -> boxOf
+Command = quantum QWhere ,|:? Factors -> productIn 4 2
+  | quantum Factors QWhere -> productIn
+  | quantum QWhere ,|:? Box Factors -> ? productIn 5 2 4  # the numbers of Gr(k,n) once more
+  | quantum Box Factors QWhere -> ? productIn 3 4 2
+  | quantum QBox Factors -> productIn 3 2  # quantum 2 2 (2,1) (2,1)
+  | quantum ( QBox , Call ) -> productIn 5 3
+  | quantum ( QWhere , Call ) -> productIn 5 3
+  | quantum ( QBox ) Factors -> ! productIn 5 3
   | quantum NUM Factors -> ! quantumLeast 3 2  # n-k is missing
   | quantum Factors -> ! quantumLeast  # k and n-k are missing
   | fusion NUM NUM Factors -> fusion
@@ -776,16 +779,16 @@ Command = schubert WPerm -> permuted schubert
   | growth WPerm -> permuted growth
   | schubmult WOther -> permuted schubmult
   | dschubmult WOther -> permuted dschubmult
-  | stanley Opt WPerm -> stanley 3 2
-  | stanley WPerm Opt -> stanley
-  | stanley ( NUM , WPerm ) -> stanley 5 3
-  | stanley WPerm -> ! stanley
+  | stanley Opt WPerm -> stanleyOf 3 2
+  | stanley WPerm Opt -> stanleyOf
+  | stanley ( NUM , WPerm ) -> stanleyOf 5 3
+  | stanley WPerm -> ! stanleyOf
   | rsk Word -> rsk
 Word "a word" = WPerm -> 1
   | Blanks -> 1
   | word InTurn -> 2
   | permutation WPerm -> 2
-  | empty word -> none
+  | empty word -> list
 Question = growth diagram of? for? permutation? WPerm -> permuted growth 6
   | Rsk of|for|to|on? Word -> rsk
   | P and|, Q tableaux|tableau? of|for Word -> rsk
@@ -800,7 +803,7 @@ Rsk = rsk correspondence? -> ""
   | insertion|recording tableaux -> ""
 TRow = Square -> 1
   | Round -> 1
-  | [ ] -> none
+  | [ ] -> list
 TRows = TRow -> list
   | TRows ,? TRow -> add
 YRow = NUM -> letters
@@ -811,7 +814,7 @@ ARow = NUM -> list
 ARows = ARow -> list
   | ARows \\ ARow -> add
 BRow = NUM -> list
-  | . -> none
+  | . -> list
   | BRow ␣NUM -> add
 Slashes = BRow / BRow -> list
   | Slashes / BRow -> add
@@ -828,7 +831,7 @@ Tableau "a tableau" = [ TRows ] -> 2
   | Slashes -> 1
   | [ Slashes ] -> 2
   | OneRow -> list
-  | . -> none
+  | . -> list
 Gap = none|. -> word .
 SCell = Gap -> 1
   | NUM -> 1
@@ -839,7 +842,7 @@ SBlanks = SCell -> list
 SkewRow = [ SCommas ] -> 2
   | ( SCommas ) -> 2
   | ( SBlanks ) -> 2
-  | [ ] -> none
+  | [ ] -> list
 SkewRows = SkewRow -> list
   | SkewRows ,? SkewRow -> add
 SSlashes = SBlanks / SBlanks -> list
@@ -884,12 +887,12 @@ Question = totals of NUM generated commands|command , from seed NUM -> reading w
   | answers to lines of input , of which there are none here -> reading batch
 LrCalc = lrcalc Command -> lrcalc  # lrcalc mult -r2 2 1 - 2 1
   | lrcalc . Command -> lrcalc
-  | lrcalc mult - ~q Box Factors -> quantum 6 5
+  | lrcalc mult - ~q QBox Factors -> productIn 6 5
   | lrcalc mult - ~f NUM , NUM Factors -> fusion
   | lrcalc coprod - ~a One -> coproduct
-  | lrcalc . mult_quantum ( Call2 , QBox ) -> inSpace
+  | lrcalc . mult_quantum ( Call2 , QBox ) -> classesIn
   | lrcalc . mult_fusion ( Call2 , NUM , NUM ) -> fusionFor
-Typed = Square -> typed index
+Typed = Square -> typedWith index
 QBox = Box -> space quantum
 Call2 = Typed , Typed -> list
 Question = OfConjugate -> ! expand s  # the Schur function of the conjugate
