@@ -61,7 +61,7 @@ function grammarOf(table, meanings) {
   for (const { name, items: all, meaning, isRepair, isDoubt } of alternatives) {
     const give = giver({ items: all, meaning }, isValued, meanings), id = ids.get(name);
     for (const items of choicesOf(all)) {
-      const of = { id, name, items, give, isRepair, isDoubt, count: all.length };
+      const of = { id, name, items, give, digits: 0, isRepair, isDoubt, count: all.length };
       startsOf[id].push(states.length);
       items.forEach((item, at) => states.push({ of, at, place: item.place, name: item.name, gap: item.gap, rule: ids.get(item.name) ?? -1, first: firstOf(item.name) }));
       states.push({ of, at: items.length, gap: 0, rule: -1, first: null });
@@ -155,18 +155,18 @@ function cutsOf({ states, rules }, { items, ends, wide }, state, origin, end) {
 
 /** The nodes of all trees: each a rule with the places where it begins and ends, the short ones first; null if there are too many. */
 function nodesOf(grammar, chart) {
-  const { states, rules } = grammar, { ends, length, wide, root } = chart, nodes = [[root, 0, length]], seen = new Set(), walked = new Set();
+  const { states, rules } = grammar, { ends, length, wide, root } = chart, nodes = [[root, 0, length]], seen = ends.map(() => []), walked = ends.map(() => []);
   let cuts = 0;
   for (let i = 0; i < nodes.length && cuts < MOST_CUTS; i += 1) {
-    const [id, begin, end] = nodes[i], open = ends[end].get(id * wide + begin).map((state) => [state, end]);
+    const [id, begin, end] = nodes[i], open = ends[end].get(id * wide + begin).flatMap((state) => [state, end]);
     while (open.length > 0) {
-      const [state, at] = open.pop(), key = (state * wide + begin) * wide + at, rule = rules[state - 1];
-      if (states[state].at === 0 || walked.has(key)) continue;
-      walked.add(key);
+      const at = open.pop(), state = open.pop(), rule = rules[state - 1], key = state * wide + begin;
+      if (states[state].at === 0 || walked[at].includes(key)) continue;
+      walked[at].push(key);
       for (const cut of cutsOf(grammar, chart, state, begin, at)) {
-        const node = (rule * wide + cut) * wide + at;
-        if (rule >= 0 && !seen.has(node)) seen.add(node), nodes.push([rule, cut, at]);
-        open.push([state - 1, cut]);
+        const node = rule * wide + cut;
+        if (rule >= 0 && !seen[at].includes(node)) seen[at].push(node), nodes.push([rule, cut, at]);
+        open.push(state - 1, cut);
         cuts += 1;
       }
     }
@@ -186,27 +186,29 @@ function putValue(found, it) {
 
 /** The marks of two parts together; null, if they have two conventions about digits. */
 function marksOf(a, b) {
+  if (!b.digits && !b.isRepair && !b.isDoubt) return a;
   const isOne = !a.digits || !b.digits || a.digits === b.digits;
   return isOne ? { digits: a.digits || b.digits || 0, isRepair: Boolean(a.isRepair || b.isRepair), isDoubt: Boolean(a.isDoubt || b.isDoubt) } : null;
 }
 
 /** The values of all trees of a parsed line, each once: `{value, digits, isRepair, isDoubt}`. A line has one convention about digits. */
 function valuesOf(grammar, chart, signs) {
-  const { states } = grammar, { ends, length, wide, root } = chart, nodes = nodesOf(grammar, chart), memo = new Map();
+  const { states } = grammar, { ends, length, wide, root } = chart, nodes = nodesOf(grammar, chart), memo = ends.map(() => new Map());
   let count = 0, isMany = nodes === null;
   const end = ({ give }, values, marks, found) => {
     const given = give(values);
     for (const it of given && given.isEither ? given : [{ value: given }]) {
       const all = it.value === null || it.value === undefined ? null : marksOf(marks, it);
-      if (all && !putValue(found, { value: it.value, ...all })) isMany = true;
+      if (all && !putValue(found, { value: it.value, digits: all.digits, isRepair: all.isRepair, isDoubt: all.isDoubt })) isMany = true;
     }
   };
   // (the values of an alternative, filled in from its last item to its first one)
   const fill = (state, begin, at, values, marks, found) => {
     if (states[state].at === 0) return end(states[state].of, values, marks, found);
     const { rule, place } = states[state - 1];
+    if (rule < 0) return (values[place] = signs[at - 1].value), fill(state - 1, begin, at - 1, values, marks, found);
     for (const cut of cutsOf(grammar, chart, state, begin, at)) {
-      for (const it of rule < 0 ? [{ value: signs[cut].value }] : node(rule, cut, at)) {
+      for (const it of node(rule, cut, at)) {
         const all = marksOf(marks, it);
         if ((count += 1) > MOST_CUTS) isMany = true;
         if (all && !isMany) (values[place] = it.value), fill(state - 1, begin, cut, values, all, found);
@@ -214,10 +216,10 @@ function valuesOf(grammar, chart, signs) {
     }
   };
   const node = (id, begin, at) => {
-    const key = (id * wide + begin) * wide + at, found = [];
-    if (memo.has(key)) return memo.get(key);
-    for (const state of ends[at].get(id * wide + begin)) if (!isMany) fill(state, begin, at, Array(states[state].of.count), states[state].of, found);
-    memo.set(key, found);
+    const key = id * wide + begin, found = [];
+    if (memo[at].has(key)) return memo[at].get(key);
+    for (const state of ends[at].get(key)) if (!isMany) fill(state, begin, at, Array(states[state].of.count), states[state].of, found);
+    memo[at].set(key, found);
     return found;
   };
   // (the short ones first, so that nothing is deep)
