@@ -171,6 +171,8 @@ Both "two partitions" = Arg By Arg -> list
 Atom "a symmetric function" = Family Index -> atom
   | ch ~( S Above ) -> atom s 4  # of a Specht module
   | frobenius characteristic of? S Above -> atom s 5
+  | symmetricfunctions ( Ring ) . Family ( ) Index -> atom
+Ring = QQ|ZZ -> ""
 Base = Atom -> 1
   | ( Sum ) -> paren
 Power = Base -> 1
@@ -295,6 +297,8 @@ Slashed = s Slash -> 2
   | s Empty Over Empty -> list 2 4
   | s Index Over s Index -> list 2 5  # s_λ/s_μ
   | s Index . skew_by ( s Index ) -> list 2 7  # Sage
+  | s ~( skewpartition ( [ Lams ] ) ) -> 6
+  | s . skew_schur ( Lams ) -> 5
   | S ~^ ~{ Shapes } -> 4  # a skew Specht module
 SkewName = skew schur? functions? of? for? -> ""
 Skewed = Slashed -> 1
@@ -339,6 +343,7 @@ Coefficient = c Above Down2 -> coef
   | c ~( Inner ; Inners ) -> coefWithPair
 Question = CoefName? for? of? Coefficient -> 4
   | CoefName for? of? Cell ,|;|: Pair -> coefWithPair
+  | lrcoefficient [ Lam , Lams ] -> coefWithPair
   | c Down2 AllNu? -> ? product 2  # no outer partition: all of them
   | c Down2 ~^ Greek AllNu? -> product 2
 AllNu = for all Greek -> ""
@@ -360,7 +365,8 @@ Kostka = K|kostka ~( Pair ) -> kostka
 KostkaName = kostka number|coefficient? of? for? -> ""
 Question = Kostka -> 1
   | KostkaName Kostka -> 2
-  | kostka_number ( Square , Square ) -> kostkaOf  # Sage
+  | Symmetrica? kostka_number ( Lams ) -> kostka  # Sage
+  | kostkanumber [ Lams ] -> kostka
   | KostkaName Pair -> kostka
   | KostkaName Arg and Arg -> kostkaOf
   | kostka Blanks -> ! kostkaAll  # kostka 3 1 1 1 1 1: where the sizes fit
@@ -368,6 +374,7 @@ Question = Kostka -> 1
 Count = number of all? -> ""
   | how many -> ""
   | hash -> ""
+Symmetrica = symmetrica . -> ""
 Cardinality = . cardinality ( ) -> ""
 Semistandard = ssyt|ssyts -> ""
   | semistandard|column -? strict? young? tableaux -> ""
@@ -384,6 +391,7 @@ Question = Count Semistandard OfShape? Arg OfContent Arg -> kostkaOf 4 6
   | semistandardtableaux ( Inner , Inner ) Cardinality -> kostkaOf
   | Count Standard OfShape? Skew -> standardSkew 4
   | Count syt ( Arg ) -> standardOf 4
+  | numberoftableaux [ Lam ] -> standardOf  # Mathematica
   | all? Semistandard OfShape? Arg OfContent Arg -> ! kostkaOf
   | all? Semistandard OfShape? Skew OfContent Arg -> ! kostkaSkew
   | ssyt ( Inner , Inner ) -> ! kostkaOf
@@ -415,6 +423,8 @@ Question = χ Above ~( Inside ) -> characterOf  # χ^{31}(22)
   | χ Above Lower -> characterOf
   | χ Lower Above -> characterOf 3 2
   | χ Above -> ? characterOnly
+  | χ ( Lam , Lam ) -> characterOf  # Maple
+  | Symmetrica? charvalue ( Lam , Lam ) -> characterOf
   | Character? χ Above AtClass Arg -> characterOf 3 5
   | Character? χ Above AtClass Cycle -> characterAtCycle 3 5
   | Character Arg AtClass Arg -> characterOf 2 4
@@ -440,6 +450,8 @@ Perm "a permutation" = ~_ ~{ PSub } -> 3
   | ~NUM -> digits
   | ~Tight -> ? 1  # S10,1,2,..
 SPoly "a Schubert polynomial" = Sch Perm -> 2
+  | schubertpolynomialring ( Ring ) ( Square ) -> 6
+  | SPoly . expand ( ) -> 1
   | { Sch } Perm -> 4  # {\mathfrak S}_w
   | X ~Square -> 2  # Sage
   | X ~( Square ) -> 3
@@ -458,10 +470,13 @@ Question = SPolys -> schubertProduct
   | DPolys -> permuted dschubmult
   | product of? schubert? polynomials? SPolys By SPoly -> permuted schubmult 5 7
   | schubert product of? WOther -> permuted schubmult
+  | schubmult_py WOther -> permuted schubmult
+  | lrcalc . mult_schubert WOther -> permuted schubmult
   | product of? schubert polynomials of? for? WOther -> permuted schubmult
   | schubert polynomials of? for? OfW? WPerm -> permuted schubert 6
   | F Perm -> ? stanleyOrInverse  # F_{321}: of Stanley, or fundamental
   | F Perm InVariables -> ? stanleyOf
+  | permutation ( Square ) . stanley_symmetric_function ( ) -> ? stanleyOrInverse
   | F Perm ~( Letters ) -> ? stanleyOf
   | Stanley F Perm -> stanleyOf
   | Stanley F Perm InVariables -> stanleyOf
@@ -883,6 +898,7 @@ Command = expand Opt? Basis ␣Sum Opt? -> expandWith  # (expand s2 has no basis
   | work ( NUM , NUM ) -> reading work
 Operands = Sum ␣Sum -> composed
 Arguments = Sum , Sum -> composed
+  | OfLam , OfLam -> composed
 Question = totals of NUM generated commands|command , from seed NUM -> reading work
   | answers to lines of input , of which there are none here -> reading batch
 LrCalc = lrcalc Command -> lrcalc  # lrcalc mult -r2 2 1 - 2 1

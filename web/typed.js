@@ -18,6 +18,7 @@ const LEFT_OUT = [
   ["characters that are not seen", ALL_UNSEEN],
   ["the prompt", /^\s*(?:\$|sage:|>>>|In \[\d+\]:|i\d+ :)(?=[ \t])/],
   ["the comment", /(?:^#(?=[ \t#]|$)|[ \t]#).*$/],
+  ["the declaration", /^\s*(?:(?:import [\w. ]+|from [\w.]+ import [\w*]+|Sym *= *SymmetricFunctions\([A-Z]+\)|X *= *SchubertPolynomialRing\([A-Z]+\)|([mehps]) *= *(?:SymmetricFunctions\([A-Z]+\)|Sym)\.\1\(\)) *; *)+/],
   ["the name of the program", /^\s*(?:\S{0,200}\/)?calc(?:-static|-glibc)?(?=[ \t]|$)/],
   ["the quotes", /^\s*(?:"([^"]*)"|'([^']*)'|“([^“”]*)”)\s*$/],
   ["the quotes", /(?<=^|[ \t])["'“]((?! )[^"'“”]*[^"'“” ])["'”](?=[ \t]|$)/g],
@@ -35,7 +36,7 @@ function plainLine(typed) {
     if (what === "the quotes" && QUOTED_APART.test(line)) continue;
     const isList = (inner) => /^\d+(?:[ ,]+\d+)+$/.test(inner) && what === "the quotes";
     const left = line.replace(form, (all, ...groups) => {
-      const inner = groups.find((it) => typeof it === "string" && it !== line) ?? "";
+      const inner = what === "the declaration" ? "" : groups.find((it) => typeof it === "string" && it !== line) ?? "";
       return isList(inner) && all !== line.trim() ? `[${inner}]` : inner;
     });
     if (left.trim() !== line && !changes.includes(what)) changes.push(what);
