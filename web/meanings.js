@@ -126,6 +126,7 @@ function coefficientOf(family, list, it) {
   return hasFunction(it.text) ? asking(reading("expand", family, it.text), { kind: "c", at: list }, isZero) : null;
 }
 const OMEGA = { s: "s", h: "e", e: "h", p: "p" };
+const isInducedTo = (groups, letters) => letters === undefined || sumOf(groups) === Number(letters);
 const DUAL = { s: "s", h: "m", m: "h" };
 function scalarProduct(a, b) {
   const [[family, list], more] = a.atoms || [[]];
@@ -252,6 +253,7 @@ const MEANINGS = {
   coef: (outer, factors) => coefOf([outer, ...factors]),
   coefWithPair: (outer, factors) => inSomeOrder(coefOf([outer, ...factors]), [outer, ...factors]),
   coefficientIn: (atom, it) => coefficientOf(...atom.atoms[0], it),
+  coefficientInPlethysm: (atom, both) => asking(reading("plethysm", atom.atoms[0][0], ...both), { kind: "c", at: atom.atoms[0][1] }),
   kostka: (lists) => kostkaOf(...lists),
   kostkaAll: (numbers) => eitherOf(...numbers.slice(1).map((_, i) => kostkaOf(numbers.slice(0, i + 1), numbers.slice(i + 1))).filter((it) => it && !it.zero)),
   standardSkew: ([outer, inner]) => (isPartition(outer) && isPartition(inner) && sumOf(inner) <= sumOf(outer) ? kostkaSkew([outer, inner], copies("1", sumOf(outer) - sumOf(inner))) : null),
@@ -286,8 +288,8 @@ const MEANINGS = {
     const isLabel = (it) => it.how !== "index" && it.length === rows - 1 && sumOf(it) <= Number(level), sums = (it) => it.map((_, i) => String(sumOf(it.slice(i))));
     return eitherOf(fusionOf({ lists }, rows, level), lists.every(isLabel) && rows > 2 && fusionOf({ lists: lists.map(sums) }, rows, level));
   },
-  induced: (groups, lists) => (descending(groups).join() === descending(lists.map((it) => String(sumOf(it)))).join() ? productOf(lists) : null),
-  permutationModule: (groups, one) => (one === "1" ? reading("expand s", atomText("h", descending(groups))) : null),
+  induced: (groups, letters, lists) => (isInducedTo(groups, letters) && groups.join() === lists.map((it) => String(sumOf(it))).join() ? productOf(lists) : null),
+  permutationModule: (groups, letters, one) => (isInducedTo(groups, letters) && one === "1" ? reading("expand s", atomText("h", descending(groups))) : null),
   restricted: (letters, list) => (sumOf(list) === Number(letters) + 1 ? skewOf("skew", [list, ["1"]]) : null),
   // the arguments of a command
   operand: (how, list) => list && { list, how },

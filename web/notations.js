@@ -309,7 +309,8 @@ Question = Slashed InVariables -> skew
   | Slashed ~( Letters ) -> skew
   | Inner Over Inner -> shapeOnly 1 3  # 321/21
   | Coproduct EqualsSum? -> coproduct
-Coproduct = Δ of? Arg -> 3
+Coproduct = Δ of Arg -> 3
+  | Δ s Index -> 3
   | Δ ( s Index ) -> 4
   | s Index . coproduct ( ) -> 2
   | coproduct of? Arg -> 3
@@ -350,6 +351,7 @@ AllNu = for all Greek -> ""
 CoefOf = coefficient|multiplicity|mult of? -> ""
   | CoefName of? for? -> ""
 Question = CoefOf Atom in Term -> coefficientIn
+  | CoefOf Atom in Plethysm -> coefficientInPlethysm
   | [ Atom ] Sum -> coefficientIn  # [s_λ] s_μ s_ν
   | CoefOf Arg in Both -> coef
   | CoefOf S|V Index in Tensor -> coef
@@ -623,11 +625,12 @@ Question = Tensor -> ! product  # of modules of GL
   | CompositeIn -> ! plethysm s
   | Specht -> ? product  # induced, or the Kronecker product
   | ind ~( Specht ) -> product
-  | ind ~_ ~{ Young } UpTo? Specht -> induced 4 7
-  | ind ~_ ~{ Young } UpTo? NUM -> permutationModule 4 7
+  | ind ~_ ~{ Young } UpTo? Specht -> induced 4 6 7
+  | ind ~_ ~{ Young } UpTo? NUM -> permutationModule 4 6 7
   | res ~_ ~{ S ~_ ~NUM } S Above -> restricted 6 9
   | res UpTo? ~_ ~{ Young } S Above -> ? coproduct 8
-  | Permutations ModulesOf? -> expand s 1
+  | Permutations -> ? expand s
+  | Permutations ModulesOf -> expand s 1
 Permutations = M Above -> atom h
 ModulesOf = in|into|to specht|irreducible? modules -> ""
 Fused = Tensor -> 1

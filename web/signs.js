@@ -80,11 +80,14 @@ const OF_VALUES = ["NUM", "(", ")", "[", "]", "{", "}", ",", ".", "/", "∖", "^
 function withValues(signs) {
   const kindAt = (at) => signs[at]?.kind, isGiven = (at) => kindAt(at + 1) === "=" && (LETTERS.test(kindAt(at)) || NUMBERS.test(kindAt(at))), values = new Map();
   let front = signs.findIndex((_, at) => isGiven(at)), at = front, begin, end;
+  // (a command has the numbers of the program; numbers beside each other could be a product)
+  const isNumber = (it) => it.kind === "NUM" || NUMBERS.test(it.kind), isBeside = (it, i) => i > 0 && !it.gap && isNumber(it) && isNumber(signs[i - 1]);
+  if (GRAMMAR.has(kindAt(0)) || signs.some(isBeside)) return signs;
   while (at >= 0 && isGiven(at)) {
     for (begin = at + 2; isGiven(begin); ) begin += 2;
     for (end = begin; OF_VALUES.includes(kindAt(end)); ) end += 1;
     while (end > begin && kindAt(end - 1) === ",") end -= 1;
-    const value = signs.slice(begin, end), isBare = NUMBERS.test(kindAt(at)) || ["(", "[", "{"].includes(kindAt(begin));
+    const value = signs.slice(begin, end), isBare = NUMBERS.test(kindAt(at)) || (["(", "[", "{"].includes(kindAt(begin)) && [")", "]", "}"].includes(kindAt(end - 1)));
     if (end === begin) return signs;
     for (; at < begin; at += 2) values.set(kindAt(at), isBare ? value : [{ kind: "[" }, ...value, { kind: "]" }]);
     for (at = end; [",", ";", ":", "and"].includes(kindAt(at)); ) at += 1;
