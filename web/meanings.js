@@ -257,7 +257,7 @@ const MEANINGS = {
   kostka: (lists) => kostkaOf(...lists),
   kostkaAll: (numbers) => eitherOf(...numbers.slice(1).map((_, i) => kostkaOf(numbers.slice(0, i + 1), numbers.slice(i + 1))).filter((it) => it && !it.zero)),
   standardSkew: ([outer, inner]) => (isPartition(outer) && isPartition(inner) && sumOf(inner) <= sumOf(outer) ? kostkaSkew([outer, inner], copies("1", sumOf(outer) - sumOf(inner))) : null),
-  standardOfSize: (list, letters) => (sumOf(list) === Number(letters) ? standardOf(list) : null),
+  ofSize: (letters, list) => (sumOf(list) === Number(letters) ? list : null),
   characterAtCycle: (list, cycle) => (Number(cycle) <= sumOf(list) ? characterOf(list, [cycle, ...(copies("1", sumOf(list) - Number(cycle)) || [])]) : null),
   characterOnly: (list) => (isPartition(list) ? eitherOf(standardOf(list), reading("expand p", atomText("s", list))) : null),
   inner: (a, b) => scalarProduct(a, b) || scalarProduct(b, a),
@@ -284,9 +284,10 @@ const MEANINGS = {
   lines: (count, dimension) => MEANINGS.planes("2", Number(dimension) + 1, count, String(Number(dimension) - 1)),
   planes: (k, n, count, other) => (n - k === Number(other) && k * other === Number(count) && boxOf(k, n - k) ? MEANINGS.degree(boxOf(k, n - k)) : null),
   // (labels of Dynkin are k-1 numbers with a sum of at most the level)
-  fusionFor: (lists, rows, level) => {
-    const isLabel = (it) => it.how !== "index" && it.length === rows - 1 && sumOf(it) <= Number(level), sums = (it) => it.map((_, i) => String(sumOf(it.slice(i))));
-    return eitherOf(fusionOf({ lists }, rows, level), lists.every(isLabel) && rows > 2 && fusionOf({ lists: lists.map(sums) }, rows, level));
+  fusionFor: (given, rows, level) => {
+    const it = Array.isArray(given) ? { lists: given } : given, isLabel = (list) => list.how !== "index" && list.length === rows - 1 && sumOf(list) <= Number(level);
+    const isLabels = it && rows > 2 && it.lists.every(isLabel), partitions = isLabels && it.lists.map((list) => list.map((_, i) => String(sumOf(list.slice(i)))));
+    return eitherOf(fusionOf(it, rows, level), partitions && fusionOf({ ...it, lists: partitions }, rows, level));
   },
   induced: (groups, letters, lists) => (isInducedTo(groups, letters) && groups.join() === lists.map((it) => String(sumOf(it))).join() ? productOf(lists) : null),
   permutationModule: (groups, letters, one) => (isInducedTo(groups, letters) && one === "1" ? reading("expand s", atomText("h", descending(groups))) : null),

@@ -388,9 +388,9 @@ OfContent = ,|and|with? content|weight|type -> ""
 Question = Count Semistandard OfShape? Arg OfContent Arg -> kostkaOf 4 6
   | Count Semistandard OfShape? Skew OfContent Arg -> kostkaSkew 4 6
   | Count Standard OfShape? Arg -> standardOf 4
-  | Count tableaux OfShape? Arg -> standardOf 4
-  | standardtableaux ( Inner ) Cardinality -> standardOf
-  | semistandardtableaux ( Inner , Inner ) Cardinality -> kostkaOf
+  | Count tableaux OfShape? Arg -> ? standardOf 4  # standard, or semistandard
+  | standardtableaux ( Square ) Cardinality -> standardOf
+  | semistandardtableaux ( Square , Square ) Cardinality -> kostkaOf
   | Count Standard OfShape? Skew -> standardSkew 4
   | Count syt ( Arg ) -> standardOf 4
   | numberoftableaux [ Lam ] -> standardOf  # Mathematica
@@ -405,17 +405,21 @@ Question = f Upper -> standardOf  # f^{(3,2,1)}
   | dimension of? specht module? Arg -> standardOf 5
   | dimension of? S Above -> standardOf 4
   | dimension of? irrep|representation|module|irreducible specht|representation|module? Arg -> ? standardOf 5  # of which group?
-  | dimension of? Irreducible? labelled? by? Arg OfS -> standardOfSize 6 7
-  | dimension of? Irreducible OfS labelled|for? by? Arg -> standardOfSize 7 4
+  | dimension of? Irreducible? labelled? by? OfSize -> standardOf
   | dimension of? Arg -> ? standardOf 3
 Irreducible = irrep|representation|module -> ""
   | irreducible|specht representation|module? -> ""
 OfS = of|for symmetric? group? S ~_ ~NUM -> 6
   | of|for symmetric? group? S ~_ ~{ NUM } -> 7
-Character = character OfS? of|for? -> ""
-  | value of character OfS? of|for? -> ""
-  | character value OfS? of|for? -> ""
+OfSize = Arg OfS -> ofSize 2 1
+  | OfS of|for|labelled? by? Arg -> ofSize
+Character = character of? -> ""
+  | value of character of? -> ""
+  | character value of? -> ""
   | value of -> ""
+Module_ = Arg -> 1
+  | for Arg -> 2
+  | OfSize -> 1
 AtClass = at|on|for cycle|conjugacy? type|class? -> ""
 Cycle = NUM - cycle -> 1
   | transposition -> word "2"
@@ -429,9 +433,9 @@ Question = χ Above ~( Inside ) -> characterOf  # χ^{31}(22)
   | Symmetrica? charvalue ( Lam , Lam ) -> characterOf
   | Character? χ Above AtClass Arg -> characterOf 3 5
   | Character? χ Above AtClass Cycle -> characterAtCycle 3 5
-  | Character Arg AtClass Arg -> characterOf 2 4
-  | Character Arg AtClass Cycle -> characterAtCycle 2 4
-  | Character Arg -> ? characterOnly 2
+  | Character Module_ AtClass Arg -> characterOf
+  | Character Module_ AtClass Cycle -> characterAtCycle
+  | Character Module_ -> ? characterOnly
   | < Sum , Sum > -> inner
   | Atom . scalar ( Sum ) -> inner  # Sage
   | ( Sum , Sum ) -> ? inner
@@ -469,6 +473,7 @@ OfW = w = -> ""
   | permutation -> ""
 Question = SPolys -> schubertProduct
   | SPolys in cohomology? of? Fl ( NUM ) -> ? schubertProduct 1
+  | SPolys in H Star ~( Fl ( NUM ) ) -> ? schubertProduct 1
   | DPolys -> permuted dschubmult
   | product of? schubert? polynomials? SPolys By SPoly -> permuted schubmult 5 7
   | schubert product of? WOther -> permuted schubmult
@@ -638,7 +643,7 @@ Fused = Tensor -> 1
 LieName = su|SU|sl|SL -> ""
   | widehat ~{ su|sl } -> ""
 Lie = LieName ( NUM ) -> 3
-  | U ( NUM ) -> 3
+  | U ( NUM ) -> ? 3
   | LieName ~_ ~NUM -> 3
   | LieName ~NUM -> 2
   | LieName ~_ ~{ NUM } -> 4
@@ -653,8 +658,9 @@ Question = Fused for|of|in? Lie Level -> fusionFor
 # ---------------------------------------------------------------- the arguments of a command
 Operand = Lam -> operand list
   | Letter -> 1
-Letter = s|σ Index -> operand list
-  | s|σ IndexPower -> operand list
+Letter = TypedLetter -> operand list
+TypedLetter = s|σ Index -> typedWith index
+  | s|σ IndexPower -> typedWith index
 Times = Lam Exp -> operandPower  # (2,1)^2
   | s|σ Index Exp -> operandPower
 Any "a list" = Operand -> 1
@@ -765,8 +771,8 @@ Command = quantum QWhere ,|:? Factors -> productIn 4 2
   | quantum Factors -> ! quantumLeast  # k and n-k are missing
   | fusion NUM NUM Factors -> fusion
   | fusion ( NUM , NUM , Call ) -> fusion
-  | fusion Lie Level :? Factors -> fusion
-  | fusion Factors for|of|in? Lie Level -> fusion 4 5 2
+  | fusion Lie Level :? Factors -> fusionFor 5 2 3
+  | fusion Factors for|of|in? Lie Level -> fusionFor
   | fusion ( NUM , NUM ) Factors -> ! fusion
   | fusion NUM Factors -> ! fusionLeast 3 2
   | fusion Factors -> ! fusionLeast

@@ -82,7 +82,7 @@ function withValues(signs) {
   let front = signs.findIndex((_, at) => isGiven(at)), at = front, begin, end;
   // (a command has the numbers of the program; numbers beside each other could be a product)
   const isNumber = (it) => it.kind === "NUM" || NUMBERS.test(it.kind), isBeside = (it, i) => i > 0 && !it.gap && isNumber(it) && isNumber(signs[i - 1]);
-  if (GRAMMAR.has(kindAt(0)) || signs.some(isBeside)) return signs;
+  if (["quantum", "fusion"].includes(kindAt(0)) || signs.some(isBeside)) return signs;
   while (at >= 0 && isGiven(at)) {
     for (begin = at + 2; isGiven(begin); ) begin += 2;
     for (end = begin; OF_VALUES.includes(kindAt(end)); ) end += 1;
