@@ -244,6 +244,7 @@ const MEANINGS = {
   // products of lists
   product: (lists, count) => productOf(lists, variables(count)),
   multOfS: (lists) => (lists.some((it) => it.length === 1 && it[0].length > 1) ? null : productOf(lists)),
+  schurOfS: (list) => (isPartition(list) && !(list.length === 1 && list[0].length > 1) ? inEachBasis("expand", atomText("s", list)) : null),
   listProduct: (lists) => doubtful({ isDoubtful: lists.some((it) => it.how === "blanks") || lists.every((it) => it.how === "digits") }, productOf(lists)),
   // skew shapes, coefficients, numbers
   skew: (lists, count) => skewOf("skew", lists, variables(count)),

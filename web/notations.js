@@ -23,6 +23,9 @@ const NOTATIONS = String.raw`
 ⊗ == \otimes
 ⊕ == \oplus
 □ == \square \Box
+⊥ == \perp
+schubert == schub
+GL == gl
 ∘ == \circ
 ∅ == \emptyset \varnothing
 ' == \prime
@@ -55,7 +58,7 @@ qcoh == qh
 3 == three third
 4 == four fourth
 5 == five fifth
-blank == \quad \qquad
+blank == \quad \qquad $
 nothing == the please 's me \left \right \big \Big \bigl \bigr \displaystyle \limits
 Family "m, e, h, p or s" := m e h p s
 SM := s m
@@ -213,6 +216,7 @@ In = To -> ""
   | as a? linear combination of -> ""
   | as a? polynomials in -> ""
   | = Σ ?? -> ""  # h_{22} = Σ m_λ
+  | = ? -> ""
   | = Σ χ ~^ Greek ~( Inside ) -> ""
 Convert = expand|write|express|convert|rewrite -> ""
 Plethysm "a plethysm" = Power ~[ Sum ] -> composed  # h_2[h_3]
@@ -296,6 +300,9 @@ Slashed = s Slash -> 2
   | s Round Over Empty -> list 2 4
   | s Empty Over Empty -> list 2 4
   | s Index Over s Index -> list 2 5  # s_λ/s_μ
+  | s Index Over ~_ ~{ Sub } -> list 2 6  # s₃₂/₁
+  | s Index ~^ ~⊥ s Index -> list 6 2
+  | s Index ~^ ~{ ⊥ } s Index -> list 8 2
   | s Index . skew_by ( s Index ) -> list 2 7  # Sage
   | s ~( skewpartition ( [ Lams ] ) ) -> 6
   | s . skew_schur ( Lams ) -> 5
@@ -342,6 +349,7 @@ Coefficient = c Above Down2 -> coef
   | c Down2 Above -> coef 3 2
   | c ~( Cell ; Cells ) -> coef
   | c ~( Inner ; Inners ) -> coefWithPair
+  | c ~( Cells ; Cell ) -> coefWithPair 5 3
 Question = CoefName? for? of? Coefficient -> 4
   | CoefName for? of? Cell ,|;|: Pair -> coefWithPair
   | lrcoefficient [ Lam , Lams ] -> coefWithPair
@@ -394,6 +402,8 @@ Question = Count Semistandard OfShape? Arg OfContent Arg -> kostkaOf 4 6
   | Count Standard OfShape? Skew -> standardSkew 4
   | Count syt ( Arg ) -> standardOf 4
   | numberoftableaux [ Lam ] -> standardOf  # Mathematica
+  | | syt ( Arg ) | -> standardOf
+  | | ssyt ( Lams ) | -> kostka
   | all? Semistandard OfShape? Arg OfContent Arg -> ! kostkaOf
   | all? Semistandard OfShape? Skew OfContent Arg -> ! kostkaSkew
   | ssyt ( Inner , Inner ) -> ! kostkaOf
@@ -430,6 +440,7 @@ Question = χ Above ~( Inside ) -> characterOf  # χ^{31}(22)
   | χ Lower Above -> characterOf 3 2
   | χ Above -> ? characterOnly
   | χ ( Lam , Lam ) -> characterOf  # Maple
+  | χ Square Square -> characterOf
   | Symmetrica? charvalue ( Lam , Lam ) -> characterOf
   | Character? χ Above AtClass Arg -> characterOf 3 5
   | Character? χ Above AtClass Cycle -> characterAtCycle 3 5
@@ -443,6 +454,7 @@ Question = χ Above ~( Inside ) -> characterOf  # χ^{31}(22)
   | inner product of Sum and Sum -> ? inner  # or the internal product
 # ---------------------------------------------------------------- Schubert polynomials
 PSub = Inside -> 1
+  | Simple -> simple
   | Round -> roundPermutation
   | Square -> 1
 Perm "a permutation" = ~_ ~{ PSub } -> 3
@@ -472,6 +484,7 @@ DPolys = DPoly -> list
 OfW = w = -> ""
   | permutation -> ""
 Question = SPolys -> schubertProduct
+  | S Index -> ? schurOfS  # S_{321}: of Schubert, or of Schur
   | SPolys in cohomology? of? Fl ( NUM ) -> ? schubertProduct 1
   | SPolys in H Star ~( Fl ( NUM ) ) -> ? schubertProduct 1
   | DPolys -> permuted dschubmult
@@ -614,7 +627,8 @@ CompositeIn = Functor ( Functor Cn ) -> composed 1 3
 GlOf = GL ~_ ~NUM -> 3
   | GL ~_ ~{ NUM } -> 4
   | GL ( NUM ) -> 3
-ForGl = for|of|in? GlOf -> 2
+  | GL ~NUM -> 2
+ForGl = for|of|in|,? GlOf -> 2
   | as a? GlOf - representation|module -> 3
   | , dimension V = NUM -> 5
 Specht = S Above ⊗ S Above -> list 2 5
@@ -648,11 +662,12 @@ Lie = LieName ( NUM ) -> 3
   | LieName ~NUM -> 2
   | LieName ~_ ~{ NUM } -> 4
 Level = at|, level NUM -> 3
+  | , k = NUM -> 4
   | level NUM -> 2
   | ~_ ~NUM -> 2
 FusionOf = fusion product|rule|rules? of? -> ""
-Question = Fused for|of|in? Lie Level -> fusionFor
-  | FusionOf Fused for|of|in? Lie Level -> fusionFor
+Question = Fused for|of|in|,? Lie Level -> fusionFor
+  | FusionOf Fused for|of|in|,? Lie Level -> fusionFor
   | Lie Level :? FusionOf? Fused -> fusionFor 5 1 2
 
 # ---------------------------------------------------------------- the arguments of a command

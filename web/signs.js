@@ -38,7 +38,7 @@ function signsOf(text, { words, same }) {
     if (kind === "blank") return void (gap = true);
     if (kind === "nothing") return;
     const isNumber = /^\d+$/.test(kind);
-    signs.push({ kind: isNumber ? "NUM" : kind, value: isNumber ? kind : value, at, end, gap: gap && signs.length > 0 });
+    signs.push({ kind: isNumber ? "NUM" : kind, value: isNumber ? kind : value, at, end, gap: gap && signs.length > 0 && !"_^".includes(signs[signs.length - 1].kind) });
     gap = false;
   };
   const putWord = (word, at) => {
