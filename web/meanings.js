@@ -100,7 +100,7 @@ function kostkaOf(lambda, mu) {
 }
 function kostkaSkew([outer, inner], content) {
   if (!skewOf("skew", [outer, inner]) || !content) return null;
-  return coefficientOf("s", outer, timesText(expression(atomText("s", inner), [["s", inner]]), expression(atomText("h", descending(content)), [["h", content]])));
+  return coefficientAt("s", outer, timesText(expression(atomText("s", inner), [["s", inner]]), expression(atomText("h", descending(content)), [["h", content]])));
 }
 
 /** The number of standard tableaux: the coefficient of the monomial function of (1^n). */
@@ -117,7 +117,7 @@ function characterOf(lambda, mu) {
 }
 
 /** The coefficient of a function in an expression; the scalar product of a function with an expression, by the dual basis. */
-function coefficientOf(family, list, it) {
+function coefficientAt(family, list, it) {
   if (!isPartition(list)) return null;
   const lists = it.atoms && listsOfAtoms(it), isZero = Boolean(lists) && sizeOfAll(lists) !== sumOf(list);
   if (family === "s" && schurFactors(it)) return lists.length === 2 ? coefOf([list, ...lists]) : asking(productOf(lists), { kind: "c", at: list }, isZero);
@@ -130,7 +130,7 @@ const isInducedTo = (groups, letters) => letters === undefined || sumOf(groups) 
 const DUAL = { s: "s", h: "m", m: "h" };
 function scalarProduct(a, b) {
   const [[family, list], more] = a.atoms || [[]];
-  return DUAL[family] && !more && b.atoms ? coefficientOf(DUAL[family], list, b) : null;
+  return DUAL[family] && !more && b.atoms ? coefficientAt(DUAL[family], list, b) : null;
 }
 
 const areLetters = (lists) => lists.length > 0 && lists.every((it) => it && isPermutation(it));
@@ -253,7 +253,7 @@ const MEANINGS = {
   coproduct: (list) => (isPartition(list) ? reading("coprod", list) : null),
   coef: (outer, factors) => coefOf([outer, ...factors]),
   coefWithPair: (outer, factors) => inSomeOrder(coefOf([outer, ...factors]), [outer, ...factors]),
-  coefficientIn: (atom, it) => coefficientOf(...atom.atoms[0], it),
+  coefficientIn: (atom, it) => coefficientAt(...atom.atoms[0], it),
   coefficientInPlethysm: (atom, both) => asking(reading("plethysm", atom.atoms[0][0], ...both), { kind: "c", at: atom.atoms[0][1] }),
   kostka: (lists) => kostkaOf(...lists),
   kostkaAll: (numbers) => eitherOf(...numbers.slice(1).map((_, i) => kostkaOf(numbers.slice(0, i + 1), numbers.slice(i + 1))).filter((it) => it && !it.zero)),

@@ -256,7 +256,7 @@ Question = Omega -> bare
   | tom ( Sum ) -> expand m
 JacobiTrudi = giambelli|jacobi -? trudi? formula|determinant? of|for? -> ""
 SProduct = S Index -> list
-  | SProduct *? S Index -> add 1 4
+  | SProduct Dot? S Index -> add 1 4
   | S Index Exp -> listPower
 InVariables = in NUM variables|vars|variable -> 2
 SPair = S Index and S Index -> list 2 5

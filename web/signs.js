@@ -72,22 +72,22 @@ function signsOf(text, { words, same }) {
 }
 
 /** Letters that stand for a list, a permutation or a tableau, and for a number, if their value is given; and the signs of a value. */
-const LETTERS = /^[λμνρκαβγuvwabPQTU]$/u;
-const NUMBERS = /^[knNd]$/;
+const LIST_LETTERS = /^[λμνρκαβγuvwabPQTU]$/u;
+const NUMBER_LETTERS = /^[knNd]$/;
 const OF_VALUES = ["NUM", "(", ")", "[", "]", "{", "}", ",", ".", "/", "∖", "^", "∅"];
 
 /** The signs with the value for each letter of which one is given beside them, as in s_λ s_μ for λ = (3,1), μ = 21; in brackets, if it is a list without. */
 function withValues(signs) {
-  const kindAt = (at) => signs[at]?.kind, isGiven = (at) => kindAt(at + 1) === "=" && (LETTERS.test(kindAt(at)) || NUMBERS.test(kindAt(at))), values = new Map();
+  const kindAt = (at) => signs[at]?.kind, isGiven = (at) => kindAt(at + 1) === "=" && (LIST_LETTERS.test(kindAt(at)) || NUMBER_LETTERS.test(kindAt(at))), values = new Map();
   let front = signs.findIndex((_, at) => isGiven(at)), at = front, begin, end;
   // (a command has the numbers of the program; numbers beside each other could be a product)
-  const isNumber = (it) => it.kind === "NUM" || NUMBERS.test(it.kind), isBeside = (it, i) => i > 0 && !it.gap && isNumber(it) && isNumber(signs[i - 1]);
+  const isNumber = (it) => it.kind === "NUM" || NUMBER_LETTERS.test(it.kind), isBeside = (it, i) => i > 0 && !it.gap && isNumber(it) && isNumber(signs[i - 1]);
   if (["quantum", "fusion"].includes(kindAt(0)) || signs.some(isBeside)) return signs;
   while (at >= 0 && isGiven(at)) {
     for (begin = at + 2; isGiven(begin); ) begin += 2;
     for (end = begin; OF_VALUES.includes(kindAt(end)); ) end += 1;
     while (end > begin && kindAt(end - 1) === ",") end -= 1;
-    const value = signs.slice(begin, end), isBare = NUMBERS.test(kindAt(at)) || (["(", "[", "{"].includes(kindAt(begin)) && [")", "]", "}"].includes(kindAt(end - 1)));
+    const value = signs.slice(begin, end), isBare = NUMBER_LETTERS.test(kindAt(at)) || (["(", "[", "{"].includes(kindAt(begin)) && [")", "]", "}"].includes(kindAt(end - 1)));
     if (end === begin) return signs;
     for (; at < begin; at += 2) values.set(kindAt(at), isBare ? value : [{ kind: "[" }, ...value, { kind: "]" }]);
     for (at = end; [",", ";", ":", "and"].includes(kindAt(at)); ) at += 1;
