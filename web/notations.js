@@ -188,7 +188,7 @@ Factor "a factor" = Power -> 1
   | Scalar -> 1
   | Scalar / NUM -> fraction
   | frac { Scalar } { NUM } -> fraction
-Term = Factor -> 1
+Term "an expression" = Factor -> 1
   | Term * Factor -> timesText
   | Term ∗ Factor -> ? timesText  # or the internal product
   | Term Power -> timesText  # h_3 e_2, 2 s_1

@@ -68,8 +68,8 @@ function readingsOf(line) {
 
 /** What can come at a place, as the page calls it. */
 function expectedAt(states) {
-  const nameOf = ({ name, rule }) => notation().labels.get(name) ?? SENTENCES["next sign"][name] ?? (rule >= 0 || /^[A-Za-z]{2}/.test(name) ? "" : name.split("|")[0]);
-  return [...new Set(states.map(nameOf))].filter(Boolean).slice(0, 6);
+  const nameOf = (name, sign, rule) => notation().labels.get(name) ?? SENTENCES["next sign"][sign] ?? (rule >= 0 || /^[A-Za-z]{2}/.test(sign) ? "" : sign);
+  return [...new Set(states.map((it) => nameOf(it.name, it.name.split("|")[0], it.rule)))].filter(Boolean).slice(0, 6);
 }
 
 /** Readings of a line with the name of its command put right. */
