@@ -3,6 +3,9 @@
 const GRAMMAR = new Map(Object.entries(/*GRAMMAR*/ null));
 const LIMITS = /*LIMITS*/ null;
 
+/** The comment at the end of a line; a formula can begin with #, too: #SYT(3,2). */
+const COMMENT = /(?:^#(?=[ \t#]|$)|[ \t]#).*$/;
+
 /** The words of a line, each with the place where it begins. */
 function wordsOf(line) {
   return [...line.matchAll(/[^ \t]+/g)].map((found) => ({ text: found[0], at: found.index }));

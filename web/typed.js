@@ -17,7 +17,7 @@ const LINE_ENDS = /[\n\r\v\f\u0085\u2028\u2029]+/;
 const LEFT_OUT = [
   ["characters that are not seen", ALL_UNSEEN],
   ["the prompt", /^\s*(?:\$|sage:|>>>|In \[\d+\]:|i\d+ :)(?=[ \t])/],
-  ["the comment", /(?:^#(?=[ \t#]|$)|[ \t]#).*$/],
+  ["the comment", COMMENT],
   ["the declaration", /^\s*(?:(?:import [\w. ]+|from [\w.]+ import [\w*]+|Sym *= *SymmetricFunctions\([A-Z]+\)|X *= *SchubertPolynomialRing\([A-Z]+\)|([mehps]) *= *(?:SymmetricFunctions\([A-Z]+\)|Sym)\.\1\(\)) *; *)+/],
   ["the name of the program", /^\s*(?:\S{0,200}\/)?calc(?:-static|-glibc)?(?=[ \t]|$)/],
   ["the quotes", /^\s*(?:"([^"]*)"|'([^']*)'|“([^“”]*)”)\s*$/],
