@@ -95,12 +95,12 @@ function ask(text, most, isQuestion = false) {
   return askLines(linesOf(text), most, true, isQuestion);
 }
 
-/** How many brackets that are closed again are open at each place of a line. */
+/** How many parentheses that are closed again are open at each place of a line. */
 function depthsOf(line) {
   const open = [], depths = new Int32Array(line.length + 1);
   for (let at = 0; at < line.length; at += 1) {
-    if ("([{".includes(line[at])) open.push(at);
-    else if (")]}".includes(line[at]) && open.length > 0) (depths[open.pop()] += 1), (depths[at] -= 1);
+    if (line[at] === "(") open.push(at);
+    else if (line[at] === ")" && open.length > 0) (depths[open.pop()] += 1), (depths[at] -= 1);
   }
   for (let at = 1; at <= line.length; at += 1) depths[at] += depths[at - 1];
   return depths;
@@ -110,13 +110,13 @@ function depthsOf(line) {
 const withoutComment = (line) => line.replace(COMMENT, "").trim();
 
 /** Whether a part that is not read gives something a name, as `s = SymmetricFunctions(QQ).s()`: the parts after it may mean what it says. */
-const givesName = (part) => /^[^=]*:?=/.test(part) && readTyped(part).unread !== undefined;
+const givesName = (part) => /^[\w.<>\\\u0370-\u03ff]+(?: *, *[\w.<>]+)*(?:\([\w, ]*\))? *:?=/.test(part.trim()) && readTyped(part).unread !== undefined;
 
-/** The parts of a line between the `;` that are in no brackets; a comment stays with the last one. */
+/** The parts of a line between the `;` that are in no parentheses and not right between two numbers, as in c_{2,1;2,1}; a comment stays with the last one. */
 function partsOfLine(line) {
   const comment = line.search(COMMENT), end = comment < 0 ? line.length : comment, depths = depthsOf(line), parts = [""];
   for (let at = 0; at < end; at += 1) {
-    if (line[at] === ";" && depths[at] === 0 && line[at - 1] !== "\\") parts.push("");
+    if (line[at] === ";" && depths[at] === 0 && !/\\;|\d;\d/.test(line.slice(Math.max(at - 1, 0), at + 2))) parts.push("");
     else parts[parts.length - 1] += line[at];
   }
   const said = parts.map((it) => it.trim()).filter(Boolean);
