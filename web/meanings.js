@@ -197,7 +197,7 @@ function productWithNumbers(options, it) {
 const rowsText = (rows) => (rows.length === 0 ? ["."] : rows.flatMap((it, i) => [...(i > 0 ? ["/"] : []), ...(it.length > 0 ? it : ["."])]));
 
 const MEANINGS = {
-  ...{ typedWith, conjugate, timesText, powerOf, variables, kostkaOf, kostkaSkew, standardOf, characterOf, stanleyOf, boxOf, classesIn, classCoefficient, factorsOf, reading },
+  typedWith, conjugate, timesText, powerOf, variables, kostkaOf, kostkaSkew, standardOf, characterOf, stanleyOf, boxOf, classesIn, classCoefficient, factorsOf, reading,
   // numbers and lists
   part: (number, times = "1") => (isPlain(number) ? copies(number, times) : null),
   partPower: (number, times) => (isPlain(number) ? eitherOf(copies(number, times), times.length > 1 && isDigits(times) && joined(copies(number, times[0]), [...times.slice(1)])) : null),
