@@ -1,7 +1,7 @@
 // A chart parser (Earley, which looks at the next sign): all trees of a line of signs, as the set of their values.
 
 /** The most items and cuts of a chart, and the most values of a rule at a place: beyond them a line is too long, or has too many readings, to be read here. */
-const MOST_ITEMS = 28000;
+const MOST_ITEMS = 24500;
 const MOST_CUTS = 24000;
 const MOST_VALUES = 24;
 

@@ -18,7 +18,7 @@ const LEFT_OUT = [
   ["characters that are not seen", ALL_UNSEEN],
   ["the prompt", /^\s*(?:\$|sage:|>>>|In \[\d+\]:|i\d+ :)(?=[ \t])/],
   ["the comment", COMMENT],
-  ["the declaration", /^\s*(?:(?:import [\w. ]+|from [\w.]+ import [\w*]+|Sym *= *SymmetricFunctions\([A-Z]+\)|X *= *SchubertPolynomialRing\([A-Z]+\)|([mehps]) *= *(?:SymmetricFunctions\([A-Z]+\)|Sym)\.\1\(\)) *; *)+/],
+  ["the declaration", /^\s*(?:(?:import [\w.]+(?: as \w+)?|from [\w.]+ import [\w*]+|Sym *= *SymmetricFunctions\([A-Z]+\)|X *= *SchubertPolynomialRing\([A-Z]+\)|([mehps]) *= *(?:SymmetricFunctions\([A-Z]+\)|Sym)\.\1\(\)) *; *)+/],
   ["the name of the program", /^\s*(?:\S{0,200}\/)?calc(?:-static|-glibc)?(?=[ \t]|$)/],
   ["the quotes", /^\s*(?:"([^"]*)"|'([^']*)'|“([^“”]*)”)\s*$/],
   ["the quotes", /(?<=^|[ \t])["'“]((?! )[^"'“”]*[^"'“” ])["'”](?=[ \t]|$)/g],
@@ -116,13 +116,13 @@ function severalRead(line, changes, offers, isCut) {
 
 /** A line without a reading: named as what it is, refused by the program if it begins with one of its commands or with no known sign, or with where it stops. */
 function notRead(line, changes, { offers, stop }) {
-  const [first = ""] = textsOfWords(line), small = line.replace(/[A-Za-z]{3,}/g, (it) => it.toLowerCase()), isOwn = GRAMMAR.has(first);
+  const [first = ""] = textsOfWords(line), small = line.slice(0, 400).replace(/[A-Za-z]{3,}/g, (it) => it.toLowerCase()), isOwn = GRAMMAR.has(first);
   const unknown = isOwn ? null : Object.values(SENTENCES.unknown).find(([form]) => new RegExp(form, "u").test(small));
   if (unknown) return unread(line, changes, unknown[1], offers);
   if (isOwn || !stop || stop.front.trim() === "") return { line, changes, unread: { offers } };
   if (stop.isWhole) return unread(line, changes, sentence("senseless"), offers);
   const front = stop.front.length > 36 ? `..${stop.front.slice(-34)}` : stop.front, expected = oneOf(stop.expected), word = stop.sign ? line.slice(stop.sign.at, stop.sign.end) : "";
-  const near = word.length < 4 ? undefined : [...notation().words].find((it) => it !== word && distance(word.toLowerCase(), it) <= it.length / 4);
+  const near = !/^[A-Za-z]{4,20}$/.test(word) ? undefined : [...notation().words].find((it) => it !== word && distance(word.toLowerCase(), it) <= it.length / 4);
   const said = sentence(`${stop.sign ? "stops" : "is short"}${expected ? "" : " there"}`, { front, word: named(word), expected }) + (near ? ` ${sentence("near", { near })}` : "");
   return unread(line, changes, said, offers, stop.sign ? { at: stop.sign.at, length: word.length } : { at: line.length, length: 0 });
 }
