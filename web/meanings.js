@@ -148,7 +148,7 @@ const isInBox = (list, { rows, columns }) => partition(list).length <= rows && N
 const rectangle = ({ rows, columns }) => Array(rows).fill(String(columns));
 const inFull = (list, space) => (list.how === "point" ? rectangle(space) : list);
 /** The class dual to another one: the rest of the rectangle, turned. */
-const dualOf = (list, { rows, columns }) => Array.from({ length: rows }, (_, i) => String(columns - Number(list[rows - 1 - i] || 0)));
+const dualOf = (list, space) => (isPartition(list) && isInBox(list, space) ? Array.from({ length: space.rows }, (_, i) => String(space.columns - Number(list[space.rows - 1 - i] || 0))) : null);
 
 /** A product of classes of Gr(k,n): in its quantum cohomology, or the terms without q of that, which are the ordinary product. */
 function classesIn(given, space) {
@@ -159,7 +159,7 @@ function classesIn(given, space) {
 }
 /** The coefficient of a class in a product of classes: without q, or with the power of q that the degrees leave. */
 function classCoefficient(list, lists, space, q = 0) {
-  const made = space && classesIn(lists, { ...space, isQuantum: true }), [at, ...classes] = made ? [list, ...lists].map((it) => inFull(it, space)) : [];
+  const made = list && space && classesIn(lists, { ...space, isQuantum: true }), [at, ...classes] = made ? [list, ...lists].map((it) => inFull(it, space)) : [];
   if (!made || ![at, ...classes].every((it) => isPartition(it) && isInBox(it, space))) return null;
   return asking(made, { kind: "c", at: partition(at) }, sizeOfAll(classes) !== sumOf(at) + q * (space.rows + space.columns));
 }
@@ -280,7 +280,7 @@ const MEANINGS = {
   subspaces: (k, n) => boxOf(Number(k) + 1, n - k),
   space: (kind, space) => space && { ...space, isQuantum: kind === "quantum" },
   integral: (lists, space) => classCoefficient(MEANINGS.point(), lists, space),
-  invariant: (a, b, c, q, space) => classCoefficient(space && dualOf(c, space), [a, b], space, Number(q)),
+  invariant: (a, b, c, q, space) => classCoefficient(dualOf(inFull(c, space), space), [a, b], space, Number(q)),
   degree: (space) => (space.rows * space.columns <= LIMITS.degree ? standardOf(rectangle(space), "degree") : tooMuch()),
   lines: (count, dimension) => MEANINGS.planes("2", Number(dimension) + 1, count, String(Number(dimension) - 1)),
   planes: (k, n, count, other) => (n - k === Number(other) && k * other === Number(count) && boxOf(k, n - k) ? MEANINGS.degree(boxOf(k, n - k)) : null),
