@@ -79,7 +79,7 @@ function treesOf(signs) {
     if (begin >= end || (begin > 0 && gap && (gap === 1) === signs[begin].gap)) return;
     if (!ids.has(name)) {
       const all = signsOfItem(name);
-      if (all.includes("ANY") || all.includes(signs[begin].kind)) cut(of, k + 1, begin + 1, end, [...given, [place, signs[begin].value]], marks, found);
+      if (all.includes(signs[begin].kind)) cut(of, k + 1, begin + 1, end, [...given, [place, signs[begin].value]], marks, found);
       return;
     }
     for (let middle = rest === 0 ? end : begin + 1; middle <= end - rest; middle += 1) {
@@ -96,7 +96,7 @@ function trees() {
   const wrong = [];
   let tried = 0, one = 0;
   while (tried < Number(count)) {
-    const line = madeLine(), signs = signsOf_(line, notation_().words);
+    const line = madeLine(), signs = signsOf_(line, notation_());
     if (signs.length === 0 || signs.length > 13) continue;
     tried += 1;
     const mine = treesOf(signs), { values, isMany } = parsed_(notation_(), "Line", signs);

@@ -1,7 +1,7 @@
 // A chart parser (Earley, which looks at the next sign): all trees of a line of signs, as the set of their values.
 
 /** The most items and cuts of a chart, and the most values of a rule at a place: beyond them a line is too long, or has too many readings, to be read here. */
-const MOST_ITEMS = 24000;
+const MOST_ITEMS = 24500;
 const MOST_CUTS = 24000;
 const MOST_VALUES = 24;
 
@@ -12,21 +12,24 @@ function itemOf(given) {
   return { name: isOptional ? name.slice(0, -1) : name, gap, isOptional };
 }
 
-/** The lines of a table: its alternatives, its classes of signs, and what the page calls each. */
+/** The lines of a table: its alternatives, its classes of signs, what the page calls each, and which texts are the same as a sign. */
 function readTable(table) {
-  const alternatives = [], classes = new Map(), labels = new Map();
+  const alternatives = [], classes = new Map(), labels = new Map(), same = new Map();
+  let name = "";
   for (const line of table.split("\n").map((it) => it.replace(/\s+# .*$|^#.*$/, "").trim())) {
-    const found = /^(\S+)(?: "([^"]*)")? ([:~]?)= (.*)$/.exec(line);
+    const found = /^(?:(?!\| )(\S+)(?: "([^"]*)")? )?([:~=]?=|\|) (.*)$/.exec(line);
     if (!found) continue;
-    const [, name, label, kind, right] = found;
+    const [, own, label, kind, right] = found;
+    name = own ?? name;
     if (label) labels.set(name, label);
-    if (kind) classes.set(name, { signs: right.split(" "), isKept: kind === ":" });
+    if (kind === "==") right.split(" ").forEach((it) => same.set(it, name));
+    else if (kind === ":=" || kind === "~=") classes.set(name, { signs: right.split(" "), isKept: kind === ":=" });
     else {
       const [, items, mark, meaning] = /^(.*?) -> ([!?] )?(.+)$/.exec(right);
-      alternatives.push({ name, items: items.split(" ").map(itemOf), mark: (mark || "").trim(), meaning: meaning.split(" ") });
+      alternatives.push({ name, items: items.split(" ").map(itemOf), isRepair: mark === "! ", isDoubt: mark === "? ", meaning: meaning.split(" ") });
     }
   }
-  return { alternatives, classes, labels };
+  return { alternatives, classes, labels, same };
 }
 
 /** How the values of the items of an alternative make its own: `chosen` are the places of those that are given, or words. */
@@ -35,7 +38,7 @@ function giver({ items, meaning: [name, ...given] }, isValued, meanings) {
   if (/^\d+$/.test(name)) return (values) => values[name - 1];
   const valued = items.map((it, i) => (isValued(it.name) ? i : -1)).filter((i) => i >= 0), give = meanings[name];
   if (!give) throw new Error(`no meaning ${name}`);
-  const words = given.filter((it) => !/^\d+$/.test(it)), places = given.filter((it) => /^\d+$/.test(it)).map((it) => it - 1);
+  const words = given.filter((it) => !/^\d+$/.test(it)).map((it) => it.replace(/"/g, "")), places = given.filter((it) => /^\d+$/.test(it)).map((it) => it - 1);
   const chosen = places.length > 0 ? places : valued;
   return (values) => give(...words, ...chosen.map((i) => values[i]));
 }
@@ -48,32 +51,25 @@ function choicesOf(items) {
 
 /** A table as it is parsed by: its states, each an alternative with a place in it, and which signs can begin each. */
 function grammarOf(table, meanings) {
-  const { alternatives, classes, labels } = readTable(table), names = [...new Set(alternatives.map((it) => it.name))];
-  const ids = new Map(names.map((name, i) => [name, i])), signsIn = (name) => (classes.has(name) ? classes.get(name).signs : [name]);
-  const signsOfItem = (name) => (name.length > 1 && !classes.has(name) ? name.split("|") : [name]).flatMap(signsIn);
-  const silent = new Set(names.filter((name) => alternatives.find((it) => it.name === name).meaning[0] === '""'));
+  const { alternatives, classes, labels, same } = readTable(table), names = [...new Set(alternatives.map((it) => it.name))];
+  const ids = new Map(names.map((name, i) => [name, i])), silent = new Set(alternatives.filter((it) => it.meaning[0] === '""').map((it) => it.name));
+  const signsOfItem = (name) => (name.length > 1 && !classes.has(name) ? name.split("|") : [name]).flatMap((it) => (classes.has(it) ? classes.get(it).signs : [it]));
   const isValued = (name) => (ids.has(name) ? !silent.has(name) : classes.has(name) ? classes.get(name).isKept : name === "NUM" || name === "sup");
   const literals = new Set(alternatives.flatMap((it) => it.items).filter((it) => !ids.has(it.name)).flatMap((it) => signsOfItem(it.name)));
-  const kinds = new Map([...literals].map((it, i) => [it, i])), states = [], startsOf = names.map(() => []);
-  const noSign = () => new Int32Array((kinds.size >> 5) + 1), firstOfRule = names.map(noSign);
-  const firstOf = ({ name }) => {
-    if (ids.has(name)) return firstOfRule[ids.get(name)];
-    const signs = signsOfItem(name), first = noSign();
-    for (const it of signs) first[kinds.get(it) >> 5] |= 1 << (kinds.get(it) & 31);
-    return signs.includes("ANY") ? first.fill(-1) : first;
-  };
-  for (const it of alternatives) {
-    const give = giver(it, isValued, meanings), id = ids.get(it.name);
-    for (const items of choicesOf(it.items)) {
-      const of = { id, name: it.name, items, give, isRepair: it.mark === "!", isDoubt: it.mark === "?", count: it.items.length };
+  const kinds = new Map([...literals].map((it, i) => [it, i])), states = [], startsOf = names.map(() => []), firstOfRule = names.map(() => new Uint8Array(kinds.size + 1));
+  const firstOf = (name) => (ids.has(name) ? firstOfRule[ids.get(name)] : signsOfItem(name).reduce((first, it) => ((first[kinds.get(it)] = 1), first), new Uint8Array(kinds.size + 1)));
+  for (const { name, items: all, meaning, isRepair, isDoubt } of alternatives) {
+    const give = giver({ items: all, meaning }, isValued, meanings), id = ids.get(name);
+    for (const items of choicesOf(all)) {
+      const of = { id, name, items, give, digits: 0, isRepair, isDoubt, count: all.length };
       startsOf[id].push(states.length);
-      items.forEach((item, at) => states.push({ of, at, place: item.place, name: item.name, gap: item.gap, rule: ids.get(item.name) ?? -1, first: firstOf(item) }));
+      items.forEach((item, at) => states.push({ of, at, place: item.place, name: item.name, gap: item.gap, rule: ids.get(item.name) ?? -1, first: firstOf(item.name) }));
       states.push({ of, at: items.length, gap: 0, rule: -1, first: null });
     }
   }
   spreadFirsts(states, startsOf, firstOfRule);
   const fast = { firsts: states.map((it) => it.first), rules: Int32Array.from(states, (it) => it.rule), gaps: Uint8Array.from(states, (it) => it.gap), ofs: Int32Array.from(states, (it) => it.of.id) };
-  return { states, ids, kinds, labels, startsOf, startsBy: new Map(), signsOfItem, words: new Set([...literals].filter((it) => /^[A-Za-z_]{2,}$/.test(it))), ...fast };
+  return { states, ids, kinds, labels, same, startsOf, startsBy: new Map(), signsOfItem, words: new Set([...literals].filter((it) => /^[A-Za-z_]{2,}$/.test(it))), ...fast };
 }
 
 /** Has each rule begin with what its alternatives begin with. */
@@ -81,53 +77,40 @@ function spreadFirsts(states, startsOf, firstOfRule) {
   for (let isNew = true; isNew; ) {
     isNew = false;
     startsOf.forEach((starts, id) => {
-      const own = firstOfRule[id];
-      for (const start of starts) states[start].first.forEach((bits, i) => bits & ~own[i] && ((own[i] |= bits), (isNew = true)));
+      for (const start of starts) states[start].first.forEach((is, i) => is > firstOfRule[id][i] && ((firstOfRule[id][i] = 1), (isNew = true)));
     });
   }
 }
 
-/** Lists by small numbers, of which there are few: what is put under one, and whether it is the first there. */
-class Few {
-  keys = [];
-  lists = [];
-  put(key, ...values) {
-    const i = this.keys.indexOf(key);
-    if (i >= 0) this.lists[i].push(...values);
-    else this.keys.push(key), this.lists.push(values);
-    return i < 0;
-  }
-  at(key) {
-    return this.lists[this.keys.indexOf(key)];
-  }
+/** Puts values into the list under a key of a map, and says whether they are the first there. */
+function putInto(map, key, ...values) {
+  const list = map.get(key);
+  if (list) list.push(...values);
+  else map.set(key, values);
+  return !list;
 }
-
-/** Whether a sign is in a set of first signs. */
-const isIn = (first, kind) => ((first[kind >> 5] >> (kind & 31)) & 1) === 1;
 
 /** The alternatives of a rule that can begin with a sign. */
 function startsWith({ startsOf, startsBy, firsts, kinds }, id, kind) {
-  const key = id * (kinds.size + 1) + kind, known = startsBy.get(key);
-  if (known) return known;
-  const found = startsOf[id].filter((it) => isIn(firsts[it], kind));
-  startsBy.set(key, found);
-  return found;
+  const key = id * (kinds.size + 1) + kind;
+  if (!startsBy.has(key)) startsBy.set(key, startsOf[id].filter((it) => firsts[it][kind]));
+  return startsBy.get(key);
 }
 
 /** The chart of signs: in each column the items that have come so far, each a state and the place where its alternative begins as one number; which
- * rules wait there; and which have ended there. `far` is how many signs begin some line; `tried` are the states that go on at the place `asked`. */
-function chartOf(grammar, rule, signs, asked = -1) {
+ * rules wait there; and which have ended there. `far` is how many signs begin some line; `tried` are the states that would go on there. */
+function chartOf(grammar, rule, signs) {
   const { kinds, firsts, rules, gaps, ofs, startsOf } = grammar, length = signs.length, wide = length + 1, root = grammar.ids.get(rule), none = kinds.size;
   const kind = [...signs.map((it) => kinds.get(it.kind) ?? none), none], blanks = [...signs.map((it, i) => (i === 0 ? 0 : it.gap ? 1 : 2)), 0];
-  const items = Array.from({ length: wide }, () => []), waiting = items.map(() => new Few()), ends = items.map(() => new Few()), tried = [];
-  let far = 0, count = 0;
+  const items = Array.from({ length: wide }, () => []), waiting = items.map(() => new Map()), ends = items.map(() => new Map());
+  let far = 0, count = 0, tried = [];
   const add = (at, state, origin) => {
     const first = firsts[state];
     if (first !== null) {
-      if (at > far) far = at;
-      if (at === asked) tried.push(state);
+      if (at > far) (far = at), (tried = []);
+      if (at === far) tried.push(state);
       // (an item that cannot go on here is none)
-      if (at === length || !isIn(first, kind[at]) || (gaps[state] !== 0 && gaps[state] === blanks[at])) return;
+      if (at === length || !first[kind[at]] || (gaps[state] !== 0 && gaps[state] === blanks[at])) return;
     }
     const key = state * wide + origin;
     if (items[at].includes(key)) return;
@@ -135,8 +118,8 @@ function chartOf(grammar, rule, signs, asked = -1) {
     count += 1;
   };
   const end = (at, state, origin) => {
-    if (!ends[at].put(ofs[state] * wide + origin, state)) return;
-    const open = waiting[origin].at(ofs[state]) || [];
+    if (!putInto(ends[at], ofs[state] * wide + origin, state)) return;
+    const open = waiting[origin].get(ofs[state]) || [];
     for (let k = 0; k < open.length; k += 2) add(at, open[k] + 1, open[k + 1]);
   };
   for (const it of startsOf[root]) add(0, it, 0);
@@ -145,7 +128,7 @@ function chartOf(grammar, rule, signs, asked = -1) {
       const key = items[at][i], origin = key % wide, state = (key - origin) / wide, next = rules[state];
       if (firsts[state] === null) end(at, state, origin);
       else if (next < 0) add(at + 1, state + 1, origin);
-      else if (waiting[at].put(next, state, origin)) for (const it of at === asked ? startsOf[next] : startsWith(grammar, next, kind[at])) add(at, it, at);
+      else if (putInto(waiting[at], next, state, origin)) for (const it of startsWith(grammar, next, kind[at])) add(at, it, at);
     }
   }
   return { items, ends, length, wide, root, far, tried, isLong: count >= MOST_ITEMS };
@@ -153,17 +136,17 @@ function chartOf(grammar, rule, signs, asked = -1) {
 
 /** All values of a rule for all signs: `{values, isMany, isWhole, far, tried}`. `isMany`: there are too many, or the signs are too many. */
 function parsed(grammar, rule, signs) {
-  const chart = chartOf(grammar, rule, signs), { ends, length, wide, root, far, isLong } = chart;
-  const isWhole = !isLong && length > 0 && ends[length].keys.includes(root * wide);
+  const chart = chartOf(grammar, rule, signs), { ends, length, wide, root, far, isLong, tried } = chart;
+  const isWhole = !isLong && length > 0 && ends[length].has(root * wide);
   const found = isWhole ? valuesOf(grammar, chart, signs) : { values: [], isMany: isLong };
-  // (what can come at the last place is looked for only where it is asked)
-  return { ...found, isWhole, far, tried: () => (isLong ? [] : chartOf(grammar, rule, signs, far).tried.map((it) => grammar.states[it])) };
+  return { ...found, isWhole, far, tried: isLong ? [] : tried.map((it) => grammar.states[it]) };
 }
 
 /** The places at which the item before a state can have begun, in an alternative that began at `origin`. */
 function cutsOf({ states, rules }, { items, ends, wide }, state, origin, end) {
   const least = rules[state - 1] * wide, isFirst = states[state - 1].at === 0, cuts = [];
-  for (const key of ends[end].keys) {
+  if (least < 0) return [end - 1];
+  for (const key of ends[end].keys()) {
     const cut = key - least, isOfRule = cut >= 0 && cut < wide;
     if (isOfRule && (isFirst ? cut === origin : cut >= origin && items[cut].includes((state - 1) * wide + origin))) cuts.push(cut);
   }
@@ -172,27 +155,21 @@ function cutsOf({ states, rules }, { items, ends, wide }, state, origin, end) {
 
 /** The nodes of all trees: each a rule with the places where it begins and ends, the short ones first; null if there are too many. */
 function nodesOf(grammar, chart) {
-  const { states, rules } = grammar, { ends, length, wide, root } = chart, nodes = [], seen = ends.map(() => []), walked = ends.map(() => []);
+  const { states, rules } = grammar, { ends, length, wide, root } = chart, nodes = [[root, 0, length]], seen = ends.map(() => []), walked = ends.map(() => []);
   let cuts = 0;
-  const visit = (id, begin, end) => {
-    const key = id * wide + begin;
-    if (!seen[end].includes(key)) seen[end].push(key), nodes.push([id, begin, end]);
-  };
-  const walk = (begin, open) => {
+  for (let i = 0; i < nodes.length && cuts < MOST_CUTS; i += 1) {
+    const [id, begin, end] = nodes[i], open = ends[end].get(id * wide + begin).flatMap((state) => [state, end]);
     while (open.length > 0) {
-      const at = open.pop(), state = open.pop(), key = state * wide + begin;
+      const at = open.pop(), state = open.pop(), rule = rules[state - 1], key = state * wide + begin;
       if (states[state].at === 0 || walked[at].includes(key)) continue;
       walked[at].push(key);
-      const all = rules[state - 1] < 0 ? [at - 1] : cutsOf(grammar, chart, state, begin, at);
-      if (rules[state - 1] >= 0) all.forEach((cut) => visit(rules[state - 1], cut, at));
-      for (const cut of all) open.push(state - 1, cut);
-      cuts += all.length;
+      for (const cut of cutsOf(grammar, chart, state, begin, at)) {
+        const node = rule * wide + cut;
+        if (rule >= 0 && !seen[at].includes(node)) seen[at].push(node), nodes.push([rule, cut, at]);
+        open.push(state - 1, cut);
+        cuts += 1;
+      }
     }
-  };
-  visit(root, 0, length);
-  for (let i = 0; i < nodes.length && cuts < MOST_CUTS; i += 1) {
-    const [id, begin, end] = nodes[i];
-    for (const state of ends[end].at(id * wide + begin)) walk(begin, [state, end]);
   }
   return cuts < MOST_CUTS ? nodes.sort((a, b) => a[2] - b[2] || b[1] - a[1]) : null;
 }
@@ -207,47 +184,45 @@ function putValue(found, it) {
   return found.length <= MOST_VALUES;
 }
 
+/** The marks of two parts together; null, if they have two conventions about digits. */
+function marksOf(a, b) {
+  if (!b.digits && !b.isRepair && !b.isDoubt) return a;
+  const isOne = !a.digits || !b.digits || a.digits === b.digits;
+  return isOne ? { digits: a.digits || b.digits || 0, isRepair: Boolean(a.isRepair || b.isRepair), isDoubt: Boolean(a.isDoubt || b.isDoubt) } : null;
+}
+
 /** The values of all trees of a parsed line, each once: `{value, digits, isRepair, isDoubt}`. A line has one convention about digits. */
 function valuesOf(grammar, chart, signs) {
-  const { states } = grammar, { ends, length, wide, root } = chart, nodes = nodesOf(grammar, chart), memo = ends.map(() => new Few());
+  const { states } = grammar, { ends, length, wide, root } = chart, nodes = nodesOf(grammar, chart), memo = ends.map(() => new Map());
   let count = 0, isMany = nodes === null;
-  if (isMany) return { values: [], isMany };
+  const end = ({ give }, values, marks, found) => {
+    const given = give(values);
+    for (const it of given && given.isEither ? given : [{ value: given }]) {
+      const all = it.value === null || it.value === undefined ? null : marksOf(marks, it);
+      if (all && !putValue(found, { value: it.value, digits: all.digits, isRepair: all.isRepair, isDoubt: all.isDoubt })) isMany = true;
+    }
+  };
   // (the values of an alternative, filled in from its last item to its first one)
   const fill = (state, begin, at, values, marks, found) => {
-    if (states[state].at === 0) return void ended(states[state].of, values, marks, (it) => (isMany = !putValue(found, it) || isMany));
+    if (states[state].at === 0) return end(states[state].of, values, marks, found);
     const { rule, place } = states[state - 1];
     if (rule < 0) return (values[place] = signs[at - 1].value), fill(state - 1, begin, at - 1, values, marks, found);
     for (const cut of cutsOf(grammar, chart, state, begin, at)) {
       for (const it of node(rule, cut, at)) {
-        if (marks.digits && it.digits && marks.digits !== it.digits) continue;
-        if ((count += 1) > MOST_CUTS) return void (isMany = true);
-        values[place] = it.value;
-        fill(state - 1, begin, cut, values, { digits: marks.digits || it.digits, isRepair: marks.isRepair || it.isRepair, isDoubt: marks.isDoubt || it.isDoubt }, found);
+        const all = marksOf(marks, it);
+        if ((count += 1) > MOST_CUTS) isMany = true;
+        if (all && !isMany) (values[place] = it.value), fill(state - 1, begin, cut, values, all, found);
       }
     }
   };
-  const node = (id, begin, end) => {
-    const key = id * wide + begin, known = memo[end].at(key);
-    if (known) return known;
-    const found = [];
-    for (const state of ends[end].at(key)) {
-      const { count: size, isRepair, isDoubt } = states[state].of;
-      if (!isMany) fill(state, begin, end, Array(size), { digits: 0, isRepair, isDoubt }, found);
-    }
-    memo[end].put(key, ...found);
+  const node = (id, begin, at) => {
+    const key = id * wide + begin, found = [];
+    if (memo[at].has(key)) return memo[at].get(key);
+    for (const state of ends[at].get(key)) if (!isMany) fill(state, begin, at, Array(states[state].of.count), states[state].of, found);
+    memo[at].set(key, found);
     return found;
   };
   // (the short ones first, so that nothing is deep)
-  for (const it of nodes) node(...it);
+  for (const it of nodes ?? []) node(...it);
   return { values: isMany ? [] : node(root, 0, length), isMany };
-}
-
-/** Puts what an alternative means: a value, several (`either`), or none. */
-function ended({ give }, values, marks, put) {
-  const given = give(values);
-  if (given === null || given === undefined) return;
-  for (const it of Array.isArray(given) && given.isEither ? given : [{ value: given }]) {
-    if (it.value === null || it.value === undefined || (it.digits && marks.digits && it.digits !== marks.digits)) continue;
-    put({ value: it.value, digits: it.digits || marks.digits, isRepair: marks.isRepair || Boolean(it.isRepair), isDoubt: marks.isDoubt || Boolean(it.isDoubt) });
-  }
 }

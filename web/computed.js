@@ -108,7 +108,11 @@ const ASKED = {
   f: ({ of }) => `f^{${shown(of)}}`,
   χ: ({ of, at }) => `χ^{${shown(of)}}_{${shown(at)}}`,
   degree: ({ of }) => `the degree of Gr(${of.length},${of.length + Number(of[0])})`,
-  c: ({ at }, words) => `the coefficient of ${schur(at)} in ${words("partition").map(schur).join(" · ")}`,
+  c: ({ at }, words) => {
+    const [[basis] = [], [text] = []] = [words("basis")[0], words("expression")[0]], isQuantum = words("columns").length > 0;
+    if (basis) return `the coefficient of ${basis}_{${shown(at)}} in ${text ? shownExpression(text) : COMPUTED.plethysm(words).replace(/ in the basis .$/, "")}`;
+    return `the coefficient of ${isQuantum ? `σ_{${shown(at)}}` : schur(at)} in ${isQuantum ? COMPUTED.quantum(words) : words("partition").map(schur).join(" · ")}`;
+  },
   count: (_, words) => `the number of ${COMPUTED.tab(words).replace(/^the /, "")}`,
   H: (_, words) => COMPUTED.quantum(words).replace(/ \* /g, " · ").replace("in QH*", "in H*"),
 };

@@ -107,16 +107,16 @@ function depthsOf(line) {
 }
 
 /** A line without its comment, to be put beside others. */
-const withoutComment = (line) => line.replace(/(^|[ \t])#.*$/, "$1").trim();
+const withoutComment = (line) => line.replace(COMMENT, "").trim();
 
 /** Whether a part that is not read gives something a name, as `s = SymmetricFunctions(QQ).s()`: the parts after it may mean what it says. */
-const givesName = (part) => /^[^=]*:?=/.test(part) && readTyped(part).unread !== undefined;
+const givesName = (part) => /^[\w.<>\\\u0370-\u03ff]+(?: *, *[\w.<>]+)*(?:\([\w, ]*\))? *:?=/.test(part.trim()) && readTyped(part).unread !== undefined;
 
-/** The parts of a line between the `;` that are in no parentheses; a comment stays with the last one. */
+/** The parts of a line between the `;` that are in no parentheses and not right between two numbers, as in c_{2,1;2,1}; a comment stays with the last one. */
 function partsOfLine(line) {
-  const comment = line.search(/(?:^|[ \t])#/), end = comment < 0 ? line.length : comment, depths = depthsOf(line), parts = [""];
+  const comment = line.search(COMMENT), end = comment < 0 ? line.length : comment, depths = depthsOf(line), parts = [""];
   for (let at = 0; at < end; at += 1) {
-    if (line[at] === ";" && depths[at] === 0 && line[at - 1] !== "\\") parts.push("");
+    if (line[at] === ";" && depths[at] === 0 && !/\\;|\d;\d/.test(line.slice(Math.max(at - 1, 0), at + 2))) parts.push("");
     else parts[parts.length - 1] += line[at];
   }
   const said = parts.map((it) => it.trim()).filter(Boolean);

@@ -3,6 +3,9 @@
 const GRAMMAR = new Map(Object.entries(/*GRAMMAR*/ null));
 const LIMITS = /*LIMITS*/ null;
 
+/** The comment at the end of a line; a formula can begin with #, too: #SYT(3,2). */
+const COMMENT = /(?:^#(?=[ \t#]|$)|[ \t]#).*$/;
+
 /** The words of a line, each with the place where it begins. */
 function wordsOf(line) {
   return [...line.matchAll(/[^ \t]+/g)].map((found) => ({ text: found[0], at: found.index }));
@@ -167,6 +170,7 @@ function isSound(words) {
   const inBounds = ({ role, words: given }) => {
     const numbers = given.map(plainNumber);
     if (role === "partition") return numbers.length <= LIMITS.parts && sumOf(numbers) <= LIMITS.cells && isDecreasing(numbers);
+    if (role === "expression" && degreeOf(given[0]) > degreeAllowed(parts.find((it) => it.role === "basis").words[0])) return false;
     if (EXPRESSIONS.includes(role)) return [...given[0].matchAll(/\[([\d,]+)\]/g)].every(([, list]) => isDecreasing(list.split(",")));
     if (role === "permutation") return numbers.length <= lettersAllowed(words[0]) && isPermutation(numbers);
     if (["rows", "columns", "level", "variables"].includes(role)) return Number(numbers[0]) >= 1 && Number(numbers[0]) <= LIMITS.rows;

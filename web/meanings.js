@@ -4,6 +4,7 @@
 // is the convention about digits (1: each a number of its own, 2: all of them one), of which a line has one.
 
 const anyOf = (...all) => Object.assign(all.filter((it) => it && it.value), { isEither: true });
+const eitherOf = (...values) => anyOf(...values.map((value) => ({ value })));
 
 /** Whether a limit cut something: then nothing runs. */
 const cutShort = { is: false, why: "" };
@@ -14,10 +15,10 @@ const isDigits = (number) => /^[1-9]+$/.test(number);
 const copies = (number, times) => (Number(times) <= LIMITS.cells ? Array(Number(times)).fill(number) : tooMuch());
 const joined = (...lists) => (!lists.every(Boolean) ? null : lists.reduce((sum, it) => sum + it.length, 0) <= LIMITS.cells ? [].concat(...lists) : tooMuch());
 const few = (lists) => (lists.length <= LIMITS.factors ? lists : tooMuch());
-const short = (list) => (list.length <= 2 * LIMITS.values ? list : tooMuch());
 /** A list with how it was typed. */
-const typedWith = (list, how) => Object.defineProperty([...list], "how", { value: how });
+const typedWith = (how, list) => Object.defineProperty([...list], "how", { value: how });
 const isPartition = (list) => list && isDecreasing(list);
+const sizeOfAll = (lists) => sumOf(lists.flat());
 
 /** The conjugate of a partition. */
 function conjugate(list) {
@@ -26,14 +27,7 @@ function conjugate(list) {
   return Array.from({ length: most }, (_, j) => String(list.filter((it) => Number(it) > j).length));
 }
 
-/** The digits of a number as numbers, and the number as one. */
-function digitsOf(number) {
-  if (number.length === 1) return [number];
-  const isApart = isDigits(number) && number.length <= LIMITS.cells;
-  return anyOf(isApart && { value: typedWith(number, "digits"), digits: 1 }, isPlain(number) && { value: [number], digits: isApart ? 2 : 0 });
-}
-
-/** Digits with an exponent: it is that of the last digit, or of the whole number; without braces it has one digit or all. */
+/** Digits as numbers, or as one number, with an exponent: it is that of the last digit, or of the whole number; without braces it has one digit or all. */
 function digitsWithPower(base, exponent, isBraced) {
   const isCut = !isBraced && exponent.length > 1 && isDigits(exponent), ends = [[exponent, []], ...(isCut ? [[exponent[0], [...exponent.slice(1)]]] : [])];
   const isOne = base.length === 1, isApart = isDigits(base);
@@ -50,108 +44,125 @@ function cycled(cycles) {
   return Array.from({ length: most }, (_, i) => cycles.reduceRight(moved, String(i + 1)));
 }
 
-/** The permutation that a product of simple transpositions is, each of which exchanges two places. */
-function fromSimple(indices) {
-  const letters = Array.from({ length: Math.max(...indices) + 1 }, (_, i) => String(i + 1));
-  for (const i of indices) [letters[i - 1], letters[i]] = [letters[i], letters[i - 1]];
-  return letters;
-}
-
 // ---- expressions
 
 /** An expression, made of others; `isCalled`, if some function in it was typed as s(2). */
 const expression = (text, atoms = null, ...parts) => (text.length <= LIMITS.bytes ? { text, atoms, isCalled: parts.some((it) => it.isCalled) } : tooMuch());
 const atomText = (family, list) => `${family}[${list.join(",")}]`;
-const timesText = (a, b) => expression(`${a.text}*${b.text}`, a.atoms && b.atoms && a.atoms.length + b.atoms.length <= LIMITS.factors ? [...a.atoms, ...b.atoms] : null, a, b);
+const timesText = (a, b) => expression(`${a.text}*${b.text}`, a.atoms && b.atoms && a.atoms.length + b.atoms.length <= LIMITS.degree ? [...a.atoms, ...b.atoms] : null, a, b);
 
-/** An expression as often as an exponent says, as factors. */
-function repeated(it, times) {
+/** An expression as often as an exponent says, as factors; `rest` is a further factor whose digits stood right after the exponent. */
+function powerOf(it, [times, rest]) {
   const count = Number(times);
   if (count < 1 || count > LIMITS.degree || it.text.length * count > LIMITS.bytes) return tooMuch();
-  return expression(Array(count).fill(it.text).join("*"), it.atoms && Array(count).fill(it.atoms).flat(), it);
-}
-
-/** A power: `[times, rest]`, where rest is a further factor whose digits stood right after the exponent. */
-function powerOf(it, [times, rest]) {
-  const all = repeated(it, times);
+  const all = expression(Array(count).fill(it.text).join("*"), it.atoms && Array(count).fill(it.atoms).flat(), it);
   return all && rest ? timesText(all, expression(rest)) : all;
 }
 
-const SIGN_OF_POWER_SUM = (list) => (list.reduce((sum, it) => sum + Number(it) - 1, 0) % 2 === 0 ? "" : "-1*");
-const inParentheses = (it) => ({ ...it, text: `(${it.text})`, atoms: null, inside: it.text });
 /** An expression without the parentheses around all of it. */
 const bared = (it) => it.inside ?? it.text;
-const BASES = ["s", "m", "p", "h", "e"];
 /** Where no basis is said, each is a reading. */
-const inEachBasis = (line) => anyOf(...BASES.map((it) => ({ value: { line: line(it) } })));
+const inEachBasis = (...words) => eitherOf(...["s", "m", "p", "h", "e"].map((it) => reading(words[0], it, ...words.slice(1))));
 const hasFunction = (text) => /[mehps]/.test(text);
-const isSchurProduct = (it, least = 2) => it.atoms && it.atoms.length >= least && it.atoms.every(([family]) => family === "s");
+const isProductOf = (family, it) => it.atoms && it.atoms.every(([of]) => of === family);
 const listsOfAtoms = (it) => it.atoms.map(([, list]) => list);
+const schurFactors = (it) => (isProductOf("s", it) && it.atoms.length > 1 ? listsOfAtoms(it) : null);
 
 // ---- lines
 
 const reading = (...words) => ({ line: words.flat().filter((it) => it !== "" && it !== undefined).join(" ") });
 const between = (lists, sign = "-") => lists.flatMap((it, i) => (i > 0 ? [sign, ...it] : it));
+const variables = (count) => (count ? `-r ${plainNumber(count)}` : "");
 const areMany = (lists) => lists && lists.length >= 2 && lists.length <= LIMITS.factors;
 const productOf = (lists, options = "") => (areMany(lists) && lists.every(isPartition) ? reading("mult", options, between(lists)) : null);
 const descending = (list) => [...list].sort((a, b) => Number(b) - Number(a));
+/** A reading of which one coefficient is asked for; a doubtful one, which counts beside others and never runs. */
+const asking = (made, asked, zero = false) => made && { ...made, asked, zero };
+const doubtful = (it, made) => made && it && (it.isAlone || it.isDoubtful) ? { ...made, isDoubtful: true } : made;
 
-function skewOf(name, outer, inner, options = "") {
+function skewOf(name, [outer, inner], options = "") {
   return isPartition(outer) && isPartition(inner) && isInside(partition(inner), outer) ? reading(name, options, between([outer, inner], "/")) : null;
 }
 
 function coefOf([outer, ...factors]) {
   if (!outer || factors.length !== 2 || ![outer, ...factors].every(isPartition)) return null;
-  return { ...reading("coef", between([outer, ...factors])), ...zeroIf(sumOf(outer) !== sumOf(factors.flat())) };
+  return { ...reading("coef", between([outer, ...factors])), zero: sumOf(outer) !== sizeOfAll(factors) };
 }
-const zeroIf = (is) => (is ? { zero: true } : {});
 /** A coefficient; if it is 0 by its sizes, also that of the last list, where these fit. */
 function inSomeOrder(made, [first, second, third]) {
   const other = made && made.zero && !made.isDoubtful ? coefOf([third, first, second]) : null;
   return anyOf({ value: made }, other && !other.zero && { value: other, isRepair: true });
 }
 
-/** A Kostka number: a coefficient of the Schur function in monomials. */
+/** A Kostka number: a coefficient of the Schur function in monomials; of a skew shape, that of s_λ in s_μ h_ν. */
 function kostkaOf(lambda, mu) {
-  if (!isPartition(lambda) || !mu) return null;
-  return { ...reading("expand m", atomText("s", lambda)), asked: { kind: "K", of: lambda, at: descending(mu) }, ...zeroIf(sumOf(lambda) !== sumOf(mu)) };
+  return isPartition(lambda) && mu ? asking(reading("expand m", atomText("s", lambda)), { kind: "K", of: lambda, at: descending(mu) }, sumOf(lambda) !== sumOf(mu)) : null;
+}
+function kostkaSkew([outer, inner], content) {
+  if (!skewOf("skew", [outer, inner]) || !content) return null;
+  return coefficientAt("s", outer, timesText(expression(atomText("s", inner), [["s", inner]]), expression(atomText("h", descending(content)), [["h", content]])));
 }
 
 /** The number of standard tableaux: the coefficient of the monomial function of (1^n). */
 function standardOf(list, kind = "f") {
   const ones = list && isPartition(list) ? copies("1", sumOf(list)) : null;
-  return ones && { ...reading("expand m", atomText("s", list)), asked: { kind, of: list, at: ones } };
+  return ones && asking(reading("expand m", atomText("s", list)), { kind, of: list, at: ones });
 }
 
 /** A character of the symmetric group: a coefficient of the power sum in Schur functions. */
 function characterOf(lambda, mu) {
   // (a class with blanks could be a cycle)
   if (!isPartition(lambda) || !isPartition(mu) || !mu.every((it) => Number(it) > 0)) return null;
-  return doubtful({ isDoubtful: mu.how === "blanks" }, { ...reading("expand s", atomText("p", mu)), asked: { kind: "χ", of: lambda, at: mu }, ...zeroIf(sumOf(lambda) !== sumOf(mu)) });
+  return doubtful({ isDoubtful: mu.how === "blanks" }, asking(reading("expand s", atomText("p", mu)), { kind: "χ", of: lambda, at: mu }, sumOf(lambda) !== sumOf(mu)));
 }
 
-const areLetters = (lists, least = 1) => lists.length >= least && lists.every((it) => it && isPermutation(it));
-const permuted = (name, lists, least = 1) => (areLetters(lists, least) ? reading(name, between(lists)) : null);
-
-/** The code of a permutation: how many smaller letters come after each. */
-const codeOf = (w) => w.map((a, i) => w.slice(i + 1).filter((b) => Number(b) < Number(a)).length);
-
-/** The most rows of a term of a Stanley symmetric function: in so many variables it is whole. */
-function rowsOfStanley(w) {
-  const inverse = w.map((_, i) => String(w.map(Number).indexOf(i + 1) + 1));
-  return Math.max(1, codeOf(w).filter(Boolean).length, ...codeOf(inverse));
+/** The coefficient of a function in an expression; the scalar product of a function with an expression, by the dual basis. */
+function coefficientAt(family, list, it) {
+  if (!isPartition(list)) return null;
+  const lists = it.atoms && listsOfAtoms(it), isZero = Boolean(lists) && sizeOfAll(lists) !== sumOf(list);
+  if (family === "s" && schurFactors(it)) return lists.length === 2 ? coefOf([list, ...lists]) : asking(productOf(lists), { kind: "c", at: list }, isZero);
+  if (family === "s" && isProductOf("h", it)) return kostkaOf(list, descending(lists.flat()));
+  if (family === "s" && isProductOf("p", it)) return characterOf(list, descending(lists.flat()));
+  return hasFunction(it.text) ? asking(reading("expand", family, it.text), { kind: "c", at: list }, isZero) : null;
 }
-const stanleyOf = (w, rows) => (isPermutation(w) ? reading("stanley -r", rows ?? String(rowsOfStanley(w)), w) : null);
+const OMEGA = { s: "s", h: "e", e: "h", p: "p" };
+const isInducedTo = (groups, letters) => letters === undefined || sumOf(groups) === Number(letters);
+const DUAL = { s: "s", h: "m", m: "h" };
+function scalarProduct(a, b) {
+  const [[family, list], more] = a.atoms || [[]];
+  return DUAL[family] && !more && b.atoms ? coefficientAt(DUAL[family], list, b) : null;
+}
 
+const areLetters = (lists) => lists.length > 0 && lists.every((it) => it && isPermutation(it));
+const inverseOf = (w) => w.map((_, i) => String(w.map(Number).indexOf(i + 1) + 1));
+/** A Stanley symmetric function; without a number of variables in as many as a staircase has rows, which all its partitions are inside: so it is whole. */
+function stanleyOf(w, count) {
+  if (!w || !isPermutation(w) || count === "-m") return null;
+  return reading("stanley -r", plainNumber((count || String(Math.max(1, w.length - 1))).replace("-r ", "")), w);
+}
+
+// ---- the Grassmannian, and fusion
+
+const boxOf = (rows, columns) => (rows >= 1 && columns >= 1 ? { rows: Number(rows), columns: Number(columns) } : null);
 const isInBox = (list, { rows, columns }) => partition(list).length <= rows && Number(list[0] || 0) <= columns;
+const rectangle = ({ rows, columns }) => Array(rows).fill(String(columns));
+const inFull = (list, space) => (list.how === "point" ? rectangle(space) : list);
+/** The class dual to another one: the rest of the rectangle, turned. */
+const dualOf = (list, space) => (isPartition(list) && isInBox(list, space) ? Array.from({ length: space.rows }, (_, i) => String(space.columns - Number(list[space.rows - 1 - i] || 0))) : null);
+
 /** A product of classes of Gr(k,n): in its quantum cohomology, or the terms without q of that, which are the ordinary product. */
-function classesIn(lists, space) {
-  if (!areMany(lists) || !space || !lists.every(isPartition)) return null;
-  const isFitting = lists.every((it) => isInBox(it, space)), asked = space.isQuantum ? {} : { asked: { kind: "H" } };
-  return { ...reading("quantum", String(space.rows), String(space.columns), between(lists)), ...asked, ...zeroIf(!isFitting && !space.isQuantum) };
+function classesIn(given, space) {
+  const lists = space && given && given.map((it) => inFull(it, space));
+  if (!areMany(lists) || !lists.every(isPartition)) return null;
+  const made = reading("quantum", String(space.rows), String(space.columns), between(lists));
+  return space.isQuantum ? made : asking(made, { kind: "H" }, !lists.every((it) => isInBox(it, space)));
 }
-const boxOf = (rows, columns) => ({ rows: Number(rows), columns: Number(columns) });
-const quantumOf = (it, space) => doubtful(it, it && space ? classesIn(it.lists, { ...space, isQuantum: true }) : null);
+/** The coefficient of a class in a product of classes: without q, or with the power of q that the degrees leave. */
+function classCoefficient(list, lists, space, q = 0) {
+  const made = list && space && classesIn(lists, { ...space, isQuantum: true }), [at, ...classes] = made ? [list, ...lists].map((it) => inFull(it, space)) : [];
+  if (!made || ![at, ...classes].every((it) => isPartition(it) && isInBox(it, space))) return null;
+  return asking(made, { kind: "c", at: partition(at) }, sizeOfAll(classes) !== sumOf(at) + q * (space.rows + space.columns));
+}
 const fusionOf = (it, rows, level) => doubtful(it, it && areMany(it.lists) && it.lists.every(isPartition) ? reading("fusion", plainNumber(rows), plainNumber(level), between(it.lists)) : null);
 const leastRows = (lists) => String(Math.max(1, ...lists.map((it) => it.length)));
 const leastColumns = (lists) => String(Math.max(1, ...lists.map((it) => Number(it[0] || 0))));
@@ -160,245 +171,154 @@ const leastColumns = (lists) => String(Math.max(1, ...lists.map((it) => Number(i
 
 /** The lists of some operands. A number alone beside lists can be a list, a coefficient or an option; numbers alone can be one list that is not finished. */
 function factorsOf(sign, operands) {
-  const each = operands.flatMap((it) => Array(it.times || 1).fill(it)), lists = few(each.map((it) => it.list));
+  const each = [].concat(operands).flatMap((it) => Array(it.times || 1).fill(it)), lists = few(each.map((it) => it.list));
   if (!lists) return null;
   const isAlone = each.map((it) => it.how === "one"), alone = isAlone.filter(Boolean).length, isMixed = alone > 0 && alone < each.length;
   const isDoubtful = alone > 0 && (sign === "side" || (sign === "comma" && !isMixed));
   return { lists, isAlone: isMixed && sign !== "dash" ? isAlone : null, sign, isDoubtful };
 }
-/** A reading that counts beside others and never runs. */
-const doubtful = (it, made) => made && it && (it.isAlone || it.isDoubtful) ? { ...made, isDoubtful: true } : made;
 
-/** The options of a command, each once. */
-function optionsOf(...given) {
-  const rows = given.filter((it) => it && it !== "-m"), lines = given.filter((it) => it === "-m");
-  return rows.length > 1 || lines.length > 1 ? null : [...rows, ...lines].join(" ");
-}
-
-const rowsText = (rows) => (rows.length === 0 ? ["."] : rows.flatMap((it, i) => [...(i > 0 ? ["/"] : []), ...(it.length > 0 ? it : ["."])]));
-const unary = (made) => (list) => made([list]);
+/** What is made of the options of a command, each once, as one text, and of its arguments. */
+const withOptions = (make) => (...given) => {
+  const isOption = (it) => typeof it === "string" && it[0] === "-", options = given.filter(isOption).sort().reverse();
+  return options.some((it, i) => i > 0 && it[1] === options[i - 1][1]) ? null : make(options.join(" "), ...given.filter((it) => it && !isOption(it)));
+};
 
 /** The product of lists and numbers: a number can be a list or a coefficient, and at the end how many variables there are. */
-function productWithNumbers(it, options) {
+function productWithNumbers(options, it) {
   const line = doubtful(it, productOf(it.lists, options)), last = it.lists.length - 1;
   if (!it.isAlone) return line;
   const factor = (list, i) => (it.isAlone[i] ? list[0] : atomText("s", list));
-  if (it.sign === "star") return anyOf({ value: line }, { value: reading("expand s", it.lists.map(factor).join("*")) });
+  if (it.sign === "star") return eitherOf(line, reading("expand s", it.lists.map(factor).join("*")));
   const isCount = it.sign === "comma" && it.isAlone.lastIndexOf(true) === last && !options;
-  return anyOf({ value: line }, isCount && { value: productOf(it.lists.slice(0, last), `-r ${it.lists[last][0]}`) });
+  return eitherOf(line, isCount && productOf(it.lists.slice(0, last), `-r ${it.lists[last][0]}`));
 }
 
+const rowsText = (rows) => (rows.length === 0 ? ["."] : rows.flatMap((it, i) => [...(i > 0 ? ["/"] : []), ...(it.length > 0 ? it : ["."])]));
+
 const MEANINGS = {
+  typedWith, conjugate, timesText, powerOf, variables, kostkaOf, kostkaSkew, standardOf, characterOf, stanleyOf, boxOf, classesIn, classCoefficient, factorsOf, reading,
   // numbers and lists
-  part: (number) => (isPlain(number) ? [number] : null),
-  partPower: (number, times) => (isPlain(number) ? anyOf({ value: copies(number, times) }, /^[1-9]{2,}$/.test(times) && { value: joined(copies(number, times[0]), [...times.slice(1)]) }) : null),
-  partBraced: (number, times) => (isPlain(number) ? copies(number, times) : null),
-  digits: digitsOf,
+  part: (number, times = "1") => (isPlain(number) ? copies(number, times) : null),
+  partPower: (number, times) => (isPlain(number) ? eitherOf(copies(number, times), times.length > 1 && isDigits(times) && joined(copies(number, times[0]), [...times.slice(1)])) : null),
+  digits: (base, exponent = "1") => digitsWithPower(base, exponent, true),
   digitsPower: (base, exponent) => digitsWithPower(base, exponent, false),
-  digitsBraced: (base, exponent) => digitsWithPower(base, exponent, true),
+  letters: (number) => [...number],
+  ones: (count) => copies("1", count),
   join: (a, b) => joined([].concat(a), [].concat(b)),
-  withBlanks: (list) => typedWith(list, "blanks"),
-  withDigits: (list) => typedWith(list, "digits"),
-  none: () => [],
-  called: (list) => (list.length === 1 ? typedWith(list, "called") : list),
-  conjugate,
+  point: () => typedWith("point", []),
+  word: (text) => text,
+  called: (list) => (list.length === 1 ? typedWith("called", list) : list),
   exponent: (times) => anyOf({ value: [times, ""] }, /^\d[1-9]\d*$/.test(times) && { value: [times[0], times.slice(1)] }),
   exponentBraced: (times) => [times, ""],
-  pair: (a, b) => [a, b],
-  list: (a) => [a],
-  listOfOne: (number) => [[number]],
-  add: (list, more) => short([...list, more]),
+  list: (...all) => all,
+  add: (list, more) => (list.length < 2 * LIMITS.values ? [...list, more] : tooMuch()),
   addAll: (list, more) => few([...list, ...more]),
   listPower: (list, [times, rest]) => (rest || Number(times) < 1 ? null : Number(times) > LIMITS.factors ? tooMuch() : Array(Number(times)).fill(list)),
   // expressions
-  atom: (family, list) => (isDecreasing(list) ? expression(atomText(family, list), [[family, list]], { isCalled: list.how === "called" }) : null),
+  atom: (family, list) => (isPartition(list) ? { ...expression(atomText(family, list), [[family, list]]), isCalled: list.how === "called" } : null),
   omega: (family, list) => {
-    const of = { s: ["s", conjugate(list)], h: ["e", list], e: ["h", list], p: ["p", list] }[family];
-    if (!of || !isPartition(list) || !of[1]) return null;
-    return expression((family === "p" ? SIGN_OF_POWER_SUM(list) : "") + atomText(...of), family === "p" ? null : [of]);
+    const made = OMEGA[family] ? MEANINGS.atom(OMEGA[family], family === "s" ? conjugate(list) : list) : null;
+    return made && family === "p" && list.filter((it) => Number(it) % 2 === 0).length % 2 === 1 ? expression(`-1*${made.text}`) : made;
   },
-  paren: (it) => inParentheses(it),
-  power: powerOf,
-  parenPower: (it, exponent) => powerOf(inParentheses(it), exponent),
+  paren: (it) => ({ ...it, text: `(${it.text})`, atoms: null, inside: it.text }),
   scalar: (number) => expression(number),
-  fraction: (a, b) => expression(`${a}/${b}`),
-  scalarPower: (number, [times, rest]) => (rest ? null : repeated(expression(number), times)),
-  powerFraction: (number, [times, rest], below) => {
-    const all = rest ? null : repeated(expression(number), times);
-    return all && expression(`${all.text}/${below}`);
-  },
-  times: timesText,
-  timesNumber: (it, number) => timesText(it, expression(number)),
+  fraction: (it, below) => expression(`${it.text}/${below}`),
   minus: (it) => expression(`-${it.text}`, null, it),
   plus: (a, sign, b) => expression(a.text + sign + b.text, null, a, b),
-  basis: (name) => name,
-  bare: (it) => (isSchurProduct(it) ? productOf(listsOfAtoms(it)) : hasFunction(it.text) ? inEachBasis((basis) => `expand ${basis} ${it.text}`) : null),
-  bareProduct: (...all) => MEANINGS.bare(all.reduce(timesText)),
-  expand: (it, basis) => reading("expand", basis, it.text),
+  functor: (family, times) => expression(atomText(family, [times]), [["s", family === "h" ? [times] : copies("1", times)]]),
+  vector: () => expression("s[1]", [["s", ["1"]]]),
+  tensorPower: (times) => powerOf(MEANINGS.vector(), [times]),
+  bare: (it) => (schurFactors(it) && areMany(it.atoms) ? productOf(listsOfAtoms(it)) : hasFunction(it.text) ? inEachBasis("expand", it.text) : null),
+  inSchur: (it) => productOf(schurFactors(it)) || reading("expand s", it.text),
+  expand: (basis, it) => reading("expand", basis, it.text),
   // (in Sage s(2) inside another call is the number 2; s(3/2) is hardly meant as a number)
   sageExpand: (basis, it) => doubtful({ isDoubtful: it.isCalled || !hasFunction(it.text) }, reading("expand", basis, it.text)),
-  expandWith: (option, basis, it, last) => ([option, last].every((x) => !x || x === "-m") && !(option && last) ? reading("expand", option || last, basis, it.text) : null),
-  nested: (f, g) => [bared(f), g.text],
+  expandWith: withOptions((options, basis, it) => (["", "-m"].includes(options) ? reading("expand", options, basis, it.text) : null)),
   composed: (f, g) => [bared(f), bared(g)],
-  plethysmBare: ([f, g]) => (hasFunction(f) ? inEachBasis((basis) => `plethysm ${basis} ${f} ${g}`) : null),
-  plethysm: ([f, g], basis) => reading("plethysm", basis, f, g),
-  plethysmOf: (basis, f, g) => reading("plethysm", basis, f.text, g.text),
-  inLetters: (list, count) => ({ list, count }),
-  multInLetters: (all) => (all.every((it) => it.count === all[0].count) ? productOf(all.map((it) => it.list), `-r ${all[0].count}`) : null),
-  multCall: (operands, count) => productWithNumbers(factorsOf("comma", operands), `-r ${plainNumber(count)}`),
-  inVariables: (it, count) => (isSchurProduct(it) ? productOf(listsOfAtoms(it), `-r ${plainNumber(count)}`) : null),
+  plethysmBare: (both) => (hasFunction(both[0]) ? inEachBasis("plethysm", ...both) : null),
+  plethysm: (basis, both) => reading("plethysm", basis, ...both),
+  inLetters: (it, count) => ({ list: it.atoms[0][1], count }),
+  multInLetters: (all) => (all.every((it) => it.count === all[0].count) ? productOf(all.map((it) => it.list), variables(all[0].count)) : null),
+  inVariables: (it, count) => productOf(schurFactors(it), variables(count)),
   // products of lists
-  product: productOf,
+  product: (lists, count) => productOf(lists, variables(count)),
   multOfS: (lists) => (lists.some((it) => it.length === 1 && it[0].length > 1) ? null : productOf(lists)),
-  multOfBoth: (lists) => productOf(lists),
+  schurOfS: (list) => (isPartition(list) && !(list.length === 1 && list[0].length > 1) ? inEachBasis("expand", atomText("s", list)) : null),
   listProduct: (lists) => doubtful({ isDoubtful: lists.some((it) => it.how === "blanks") || lists.every((it) => it.how === "digits") }, productOf(lists)),
-  listProductIn: (lists, count) => productOf(lists, `-r ${plainNumber(count)}`),
   // skew shapes, coefficients, numbers
-  skew: ([outer, inner]) => skewOf("skew", outer, inner),
-  skewIn: ([outer, inner], basis) => (basis === "s" ? skewOf("skew", outer, inner) : null),
-  skewInVariables: ([outer, inner], count) => skewOf("skew", outer, inner, `-r ${plainNumber(count)}`),
-  shapeOnly: (outer, inner) => anyOf({ value: skewOf("skew", outer, inner) }, { value: skewOf("tab", outer, inner) }),
+  skew: (lists, count) => skewOf("skew", lists, variables(count)),
+  skewIn: (lists, basis) => (basis === "s" ? skewOf("skew", lists) : null),
+  shapeOnly: (...lists) => eitherOf(skewOf("skew", lists), skewOf("tab", lists)),
   coproduct: (list) => (isPartition(list) ? reading("coprod", list) : null),
-  ofPartition: (name, { list }) => (isPartition(list) ? reading(name, list) : null),
   coef: (outer, factors) => coefOf([outer, ...factors]),
   coefWithPair: (outer, factors) => inSomeOrder(coefOf([outer, ...factors]), [outer, ...factors]),
-  coefInTurn: (...lists) => inSomeOrder(coefOf(lists), lists),
-  coefficientIn: (list, it) => scalarProduct({ atoms: [["s", list]] }, it),
-  kostka: ([lambda, mu]) => kostkaOf(lambda, mu),
-  kostkaOf,
-  kostkaAll: (numbers) => anyOf(...numbers.slice(1).map((_, i) => kostkaOf(numbers.slice(0, i + 1), numbers.slice(i + 1))).filter((it) => it && !it.zero).map((value) => ({ value }))),
-  kostkaNumbers: (list) => (isPartition(list) ? reading("expand m", atomText("s", list)) : null),
-  standard: (list) => standardOf(list),
-  standardOfNumber: (number) => {
-    const made = digitsOf(number);
-    return made.isEither ? anyOf(...made.map((it) => ({ ...it, value: standardOf(it.value) }))) : standardOf(made);
-  },
-  standardOf: (list, letters) => (sumOf(list) === Number(letters) ? standardOf(list) : null),
-  character: characterOf,
+  coefficientIn: (atom, it) => coefficientAt(...atom.atoms[0], it),
+  coefficientInPlethysm: (atom, both) => asking(reading("plethysm", atom.atoms[0][0], ...both), { kind: "c", at: atom.atoms[0][1] }),
+  kostka: (lists) => kostkaOf(...lists),
+  kostkaAll: (numbers) => eitherOf(...numbers.slice(1).map((_, i) => kostkaOf(numbers.slice(0, i + 1), numbers.slice(i + 1))).filter((it) => it && !it.zero)),
+  standardSkew: ([outer, inner]) => (isPartition(outer) && isPartition(inner) && sumOf(inner) <= sumOf(outer) ? kostkaSkew([outer, inner], copies("1", sumOf(outer) - sumOf(inner))) : null),
+  ofSize: (letters, list) => (sumOf(list) === Number(letters) ? list : null),
+  characterAtCycle: (list, cycle) => (Number(cycle) <= sumOf(list) ? characterOf(list, [cycle, ...(copies("1", sumOf(list) - Number(cycle)) || [])]) : null),
+  characterOnly: (list) => (isPartition(list) ? eitherOf(standardOf(list), reading("expand p", atomText("s", list))) : null),
   inner: (a, b) => scalarProduct(a, b) || scalarProduct(b, a),
   // permutations
-  roundPermutation: (list) => anyOf({ value: list }, { value: cycled([list]) }),
-  roundPair: (a, b) => anyOf({ value: [a, b] }, { value: [cycled([a]), cycled([b])] }),
-  cycles: (all) => anyOf({ value: cycled(all) }, { value: cycled([...all].reverse()) }),
-  simple: (all) => {
-    const indices = all.map(Number);
-    if (indices.some((it) => it < 1 || it >= LIMITS.letters)) return null;
-    return anyOf({ value: fromSimple(indices) }, { value: fromSimple([...indices].reverse()) }, all.length === 1 && { value: all });
+  roundPermutation: (list) => eitherOf(list, cycled([list])),
+  roundPair: (a, b) => eitherOf([a, b], [cycled([a]), cycled([b])]),
+  cycles: (all) => eitherOf(cycled(all), cycled([...all].reverse())),
+  simple: (all) => eitherOf(...[all, [...all].reverse()].map((it) => cycled(it.map((i) => [i, String(Number(i) + 1)]))), all.length === 1 && all),
+  permuted: (name, ...given) => {
+    const lists = given.flatMap((it) => (typeof it[0] === "string" ? [it] : it));
+    return areLetters(lists) && lists.length === (name.endsWith("mult") ? 2 : 1) ? reading(name, between(lists)) : null;
   },
-  schubert: unary((lists) => permuted("schubert", lists)),
-  growth: unary((lists) => permuted("growth", lists)),
-  schubmult: (lists) => permuted("schubmult", lists, 2),
-  dschubmult: (lists) => permuted("dschubmult", lists, 2),
-  schubertPair: (u, v) => permuted("schubmult", [u, v], 2),
-  schubertProduct: (lists) => {
-    if (lists.length > 2) return areLetters(lists) ? tooMuch("Two Schubert polynomials are multiplied at a time here.") : null;
-    return permuted(lists.length === 1 ? "schubert" : "schubmult", lists);
-  },
-  doubleProduct: (lists) => (lists.length === 2 ? permuted("dschubmult", lists) : null),
-  stanley: (w) => stanleyOf(w),
-  stanleyIn: (w, rows) => stanleyOf(w, plainNumber(rows)),
-  stanleyWith: (option, w) => (option === "-m" ? null : stanleyOf(w, option.slice(3))),
-  firstLetter: (number) => (number === "1" ? "1" : null),
+  schubertProduct: (lists) => (lists.length <= 2 ? MEANINGS.permuted(lists.length === 1 ? "schubert" : "schubmult", lists) : areLetters(lists) ? tooMuch("Two Schubert polynomials are multiplied at a time here.") : null),
+  stanleyOrInverse: (w) => (isPermutation(w) ? eitherOf(stanleyOf(w), stanleyOf(inverseOf(w))) : null),
   nextLetter: (last, number) => (Number(number) === Number(last) + 1 ? number : null),
   rsk: (word) => (word.every((it) => Number(it) >= 1) ? reading("rsk", word) : null),
   // the Grassmannian and fusion
-  grassmannian: (k, n) => (Number(k) >= 1 && Number(n) > Number(k) ? boxOf(k, Number(n) - Number(k)) : null),
-  blackboard: (k, n) => anyOf({ value: MEANINGS.grassmannian(Number(k) + 1, Number(n) + 1) }, { value: MEANINGS.grassmannian(k, n) }),
-  projective: (n) => (Number(n) >= 1 ? boxOf(1, n) : null),
-  quantumSpace: (space) => ({ ...space, isQuantum: true }),
-  inSpace: (lists, space) => classesIn(lists, space),
-  productInSpace: (a, b, space) => classesIn([...a, ...b], space),
-  inQuantum: (lists, space) => classesIn(lists, { ...space, isQuantum: true }),
-  productInQuantum: (a, b, space) => classesIn([...a, ...b], { ...space, isQuantum: true }),
-  degree: ({ rows, columns }) => (rows * columns <= LIMITS.degree ? standardOf(Array(rows).fill(String(columns)), "degree") : tooMuch()),
-  fusionFor: (lists, rows, level) => fusionOf({ lists }, rows, level),
+  grassmannian: (k, n) => boxOf(k, n - k),
+  subspaces: (k, n) => boxOf(Number(k) + 1, n - k),
+  space: (kind, space) => space && { ...space, isQuantum: kind === "quantum" },
+  integral: (lists, space) => classCoefficient(MEANINGS.point(), lists, space),
+  invariant: (a, b, c, q, space) => classCoefficient(dualOf(inFull(c, space), space), [a, b], space, Number(q)),
+  degree: (space) => (space.rows * space.columns <= LIMITS.degree ? standardOf(rectangle(space), "degree") : tooMuch()),
+  lines: (count, dimension) => MEANINGS.planes("2", Number(dimension) + 1, count, String(Number(dimension) - 1)),
+  planes: (k, n, count, other) => (n - k === Number(other) && k * other === Number(count) && boxOf(k, n - k) ? MEANINGS.degree(boxOf(k, n - k)) : null),
+  // (labels of Dynkin are k-1 numbers with a sum of at most the level)
+  fusionFor: (given, rows, level) => {
+    const it = Array.isArray(given) ? { lists: given } : given, isLabel = (list) => list.how !== "index" && list.length === rows - 1 && sumOf(list) <= Number(level);
+    const isLabels = it && rows > 2 && it.lists.every(isLabel), partitions = isLabels && it.lists.map((list) => list.map((_, i) => String(sumOf(list.slice(i)))));
+    return eitherOf(fusionOf(it, rows, level), partitions && fusionOf({ ...it, lists: partitions }, rows, level));
+  },
+  induced: (groups, letters, lists) => (isInducedTo(groups, letters) && groups.join() === lists.map((it) => String(sumOf(it))).join() ? productOf(lists) : null),
+  permutationModule: (groups, letters, one) => (isInducedTo(groups, letters) && one === "1" ? reading("expand s", atomText("h", descending(groups))) : null),
+  restricted: (letters, list) => (sumOf(list) === Number(letters) + 1 ? skewOf("skew", [list, ["1"]]) : null),
   // the arguments of a command
   operand: (how, list) => list && { list, how },
   operandDigits: (list) => ({ list, how: list.length === 1 && list[0].length === 1 ? "one" : "digits" }),
   operandPower: (list, [times, rest]) => (rest || Number(times) < 2 || Number(times) > LIMITS.factors ? null : { list, how: "list", times: Number(times) }),
-  factors: factorsOf,
-  factorsPower: (operand) => factorsOf("star", [operand]),
   emptyFirst: (operand) => factorsOf("dash", [{ list: [], how: "list" }, operand]),
-  oneMore: (all, operand) => factorsOf("comma", [...all, operand]),
-  rows: (count) => `-r ${plainNumber(count)}`,
-  oneLine: () => "-m",
   onOneLine: (it) => (/^(?:mult|skew|expand) /.test(it.line) && !/ -m /.test(it.line) && !it.asked ? { ...it, line: it.line.replace(/^(\S+(?: -r \d+)?)/, "$1 -m") } : null),
-  scaled: (number, list) => (isPartition(list) ? expression(`${number}*${atomText("s", list)}`) : null),
-  scaledTimes: (it, { list }) => (isPartition(list) ? expression(`${it.text}*${atomText("s", list)}`) : null),
-  expandScaled: (it) => reading("expand s", it.text),
-  minusTimes: (a, b) => (isPartition(a.list) && isPartition(b.list) ? reading(`expand s -${atomText("s", a.list)}*${atomText("s", b.list)}`) : null),
-  mult: (a, b, it, c, d) => {
-    const options = optionsOf(a, b, c, d);
-    return options === null ? null : productWithNumbers(it, options);
-  },
-  multInSpace: (it, space) => doubtful(it, classesIn(it.lists, space)),
-  skewOfOperands: (outer, inner) => skewOf("skew", outer.list, inner.list),
+  listOf: ({ list }) => list,
+  schurOf: ({ list }) => MEANINGS.atom("s", list),
+  mult: withOptions(productWithNumbers),
   coefOf: (it) => inSomeOrder(doubtful(it, coefOf(it.lists)), it.lists),
-  coefInStar: (outer, factors) => coefOf([outer.list, ...factors.map((it) => it.list)]),
-  coefInTerm: (list, it) => MEANINGS.coefficientIn(list, it),
-  shape: (outer, inner) => [outer.list, inner.list],
   shapeOfTwo: (it) => (it.lists.length === 2 && ["side", "comma"].includes(it.sign) ? Object.assign([...it.lists], { isDoubtful: Boolean(it.isAlone || it.isDoubtful) }) : null),
-  shapeOfDash: (all) => (all.length === 2 ? all.map((it) => it.list) : null),
-  skewWith: (a, shape, b) => {
-    const options = optionsOf(a, b);
-    return options === null ? null : doubtful(shape, skewOf("skew", ...shape, options));
-  },
-  quantum: (k, c, it) => quantumOf(it, boxOf(k, c)),
-  quantumIn: quantumOf,
-  quantumTwice: (it, space, k, c) => (space && space.rows === Number(k) && space.columns === Number(c) ? quantumOf(it, space) : null),
-  quantumCall: (k, c, operands) => quantumOf(factorsOf("comma", operands), boxOf(k, c)),
-  quantumCallIn: (space, operands) => quantumOf(factorsOf("comma", operands), space),
-  quantumRows: (rows, it) => quantumOf(it, boxOf(rows, leastColumns(it.lists))),
-  quantumLeast: (it) => quantumOf(it, boxOf(leastRows(it.lists), leastColumns(it.lists))),
+  skewWith: withOptions((options, shape) => doubtful(shape, skewOf("skew", shape, options))),
+  productIn: (it, space, box) => (it && space && (!box || (space.rows === box.rows && space.columns === box.columns)) ? doubtful(it, classesIn(it.lists, space)) : null),
+  quantumLeast: (it, rows) => MEANINGS.productIn(it, MEANINGS.space("quantum", boxOf(rows ?? leastRows(it.lists), leastColumns(it.lists)))),
   fusion: (rows, level, it) => fusionOf(it, rows, level),
-  fusionCall: (rows, level, operands) => fusionOf(factorsOf("comma", operands), rows, level),
-  fusionRows: (rows, it) => fusionOf(it, rows, leastColumns(it.lists)),
-  fusionLeast: (it) => fusionOf(it, leastRows(it.lists), leastColumns(it.lists)),
+  fusionLeast: (it, rows) => fusionOf(it, rows ?? leastRows(it.lists), leastColumns(it.lists)),
   // tableaux
-  digitRow: (number) => [[...number]],
-  addDigitRow: (rows, number) => [...rows, [...number]],
   unrsk: (p, q) => reading("unrsk", rowsText(p), "-", rowsText(q)),
-  rect: (shape, tableau) => doubtful(shape, skewOf("rect", ...shape) && reading("rect", between(shape, "/"), "-", rowsText(tableau))),
-  rectCall: (outer, inner, tableau) => MEANINGS.rect([outer, inner], tableau),
-  count: () => 1,
-  countMore: (count) => count + 1,
-  skewRow: (count, row = []) => [count, row],
-  skewRowOne: (count, number) => [count, [number]],
-  fullRow: (row) => [0, row],
+  rect: (shape, tableau) => doubtful(shape, skewOf("rect", shape) && reading("rect", between(shape, "/"), "-", rowsText(tableau))),
   rectOfSkew: (rows) => {
-    const inner = rows.map(([count]) => String(count)), outer = rows.map(([count, row]) => String(count + row.length));
-    return inner.some((it) => it !== "0") ? MEANINGS.rect([outer, partition(inner)], rows.map(([, row]) => row)) : null;
+    const inner = rows.map((it) => String(it.filter((cell) => cell === ".").length)), entries = rows.map((it, i) => it.slice(Number(inner[i])));
+    return inner.some((it) => it !== "0") && !entries.flat().includes(".") ? MEANINGS.rect([rows.map((it) => String(it.length)), partition(inner)], entries) : null;
   },
-  tab: (shape) => doubtful(shape, skewOf("tab", ...shape)),
-  tabFrom: (shape, tableau) => doubtful(shape, skewOf("tab", ...shape) && reading("tab", between(shape, "/"), "-from", rowsText(tableau))),
-  tabNumber: ([outer, inner]) => {
-    const made = skewOf("tab", outer, inner);
-    return made && { ...made, asked: { kind: "count" } };
-  },
-  tabContent: ([outer, inner], content) => coefOf([outer, inner, content]),
-  work: (lines, seed) => reading("work", lines, seed),
-  batch: () => reading("batch"),
+  tab: (shape) => doubtful(shape, skewOf("tab", shape)),
+  tabFrom: (shape, tableau) => doubtful(shape, skewOf("tab", shape) && reading("tab", between(shape, "/"), "-from", rowsText(tableau))),
+  tabNumber: (shape) => asking(skewOf("tab", shape), { kind: "count" }),
+  tabContent: (shape, content) => coefOf([...shape, content]),
   lrcalc: (it) => (/^coprod/.test(it.line) ? anyOf({ value: it, isRepair: true }) : it),
-  // known, and not computed here; a transpose is offered as the Schur function of the conjugate
-  unknown: (name) => ({ unknown: name }),
-  transpose: (list) => {
-    const other = isPartition(list) && conjugate(list);
-    return other && reading("expand s", atomText("s", other));
-  },
 };
-
-/** A coefficient in a product of Schur functions: one number, or a line of the product. */
-function inProduct(list, lists) {
-  if (lists.length <= 2) return coefOf([list, ...lists, []].slice(0, 3));
-  const made = isPartition(list) ? productOf(lists) : null;
-  return made && { ...made, asked: { kind: "c", at: list }, ...zeroIf(sumOf(list) !== sumOf(lists.flat())) };
-}
-
-/** The scalar product of a Schur function with a product of Schur functions, or with one of h or p. */
-function scalarProduct(a, b) {
-  const [[family, list]] = a.atoms && a.atoms.length === 1 ? a.atoms : [[]];
-  if (family !== "s" || !b.atoms) return null;
-  if (isSchurProduct(b, 1)) return inProduct(list, listsOfAtoms(b));
-  const all = descending(listsOfAtoms(b).flat()), families = new Set(b.atoms.map(([it]) => it)).size === 1 ? b.atoms[0][0] : "";
-  return families === "h" ? kostkaOf(list, all) : families === "p" ? characterOf(list, all) : null;
-}

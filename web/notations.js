@@ -1,15 +1,65 @@
-// The notations that the page reads: one alternative a line,  Name = items -> meaning   # an example.  The table is ambiguous on purpose: a line has
-// the readings of all its trees, and where these are several commands all are offered.
+// The notations that the page reads: one alternative a line,  Name = items -> meaning  # an example;  a line with | is a further alternative of the
+// same name. The table is ambiguous on purpose: a line has the readings of all its trees, and where these are several commands all are offered.
 //
-// Items: a name with a capital is a rule or a class of signs; NUM is a run of digits, sup raised digits, ANY any sign; everything else is the sign or
-// word itself. `~X` is X with no blank before it, `␣X` X after a blank, `X?` X or nothing, `a|b` one of these signs. A class with `:=` keeps which
-// sign it was, one with `~=` does not. A text in quotes after the name of a rule is what the page calls it when it is expected.
+// Items: a name with a capital is a rule or a class of signs; NUM is a run of digits, sup raised digits; everything else is the sign or word itself.
+// `~X` is X with no blank before it, `␣X` X after a blank, `X?` X or nothing, `a|b` one of these signs. A class with `:=` keeps which sign it was,
+// one with `~=` does not. `==` gives the texts that are the same as a sign, as a blank or as nothing. A text in quotes after the name of a rule is what
+// the page calls it when it is expected.
 //
 // The meaning is a function of MEANINGS (meanings.js) with the values of the items that have one: rules, NUM, sup, classes with `:=`. Numbers after
 // it choose items by their places, other words are given as they are; a number alone is the item's value. `!` marks a repair, which changes what is
 // asked: it is offered where there is no reading, and never runs. `?` marks a doubtful reading, which counts beside the others and never runs.
 
 const NOTATIONS = String.raw`
+# ---------------------------------------------------------------- signs
+- == − ‐ ‑ ‒ – — ﹣ －
+* == · × ⋅ • \cdot \times times
+∗ == \ast \star ⋆ ★
+/ == ⁄ ∕
+∖ == ⧵ \ \setminus \backslash
+< == ⟨ 〈 \langle
+> == ⟩ 〉 \rangle
+∪ == \cup
+⊗ == \otimes
+⊕ == \oplus
+□ == \square \Box
+⊥ == \perp
+schubert == schub
+GL == gl
+∘ == \circ
+∅ == \emptyset \varnothing
+' == \prime
+: == \colon
+T == \top
+to == → -> \rightarrow \mapsto
+in == ∈
+hash == #
+𝔖 == frakS calS scrS
+𝔾 == bbG
+σ == sigma
+χ == chi
+ω == omega
+Δ == \Delta Delta
+λ == lambda
+μ == mu
+ν == nu
+Λ == \Lambda Lambda ∧ ⋀ \wedge \bigwedge
+Σ == \sum ∑ \Sigma
+∫ == \int
+degree == deg
+coefficient == coeff
+dimension == dim
+functions == function
+polynomials == polynomial
+frac == tfrac dfrac
+widehat == hat
+qcoh == qh
+2 == two
+3 == three third
+4 == four fourth
+5 == five fifth
+blank == \quad \qquad $
+nothing == the please 's me \left \right \big \Big \bigl \bigr \displaystyle \limits
 Family "m, e, h, p or s" := m e h p s
 SM := s m
 Sign "+ or -" := + -
@@ -19,660 +69,887 @@ To ~= in to into as
 Dot "a times sign" ~= * ∗ ⊗ ∪ ∩
 Ast "a times sign" ~= * ∗
 Over ~= / ∖
+Greek ~= λ μ ν α β ρ
 
 # ---------------------------------------------------------------- numbers and lists
-Part "a number" = NUM -> part                                   # 12: one number, since commas or blanks part it from others
-Part = NUM ~^ ~NUM -> partPower                                 # 2^3
-Part = NUM ~^ ~{ NUM } -> partBraced                            # 2^{3}
-Part = NUM ~sup -> partBraced                                   # 2³
-Commas = Part , Part -> join                                    # 2,1
-Commas = Commas , Part -> join
-Blanks = Part ␣Part -> join                                     # 2 1
-Blanks = Blanks ␣Part -> join
-Digits = NUM -> digits                                          # 21: two numbers, or one
-Digits = NUM ~^ ~NUM -> digitsPower                             # 21^2: (2,1,1) or (21,21)
-Digits = NUM ~^ ~{ NUM } -> digitsBraced
-Digits = NUM ~sup -> digitsBraced
+Part "a number" = NUM -> part  # 12: one number, since commas or blanks part it from others
+  | NUM ~^ ~NUM -> partPower  # 2^3
+  | NUM ~^ ~{ NUM } -> part
+  | NUM ~sup -> part
+Commas = Part , Part -> join
+  | Commas , Part -> join
+Blanks = Part ␣Part -> join
+  | Blanks ␣Part -> join
+Digits = NUM -> digits  # 21: two numbers, or one
+  | NUM ~^ ~NUM -> digitsPower  # 21^2: (2,1,1) or (21,21)
+  | NUM ~^ ~{ NUM } -> digits
+  | NUM ~sup -> digits
 Compact "digits" = Digits -> 1
-Compact = Compact ~Digits -> join                               # 2^{2}11
-Tightly = Part ~, ~Part -> join                                 # 2,1 without brackets: the same blanks at all commas
-Tightly = Tightly ~, ~Part -> join
+  | Compact ~Digits -> join  # 2^{2}11
+Tightly = Part ~, ~Part -> join  # 2,1 without brackets: the same blanks at all commas
+  | Tightly ~, ~Part -> join
 Loosely = Part , ␣Part -> join
-Loosely = Loosely , ␣Part -> join
+  | Loosely , ␣Part -> join
 Inside "numbers" = Commas -> 1
-Inside = Commas , -> 1                                          # (2,1,) of Python
-Inside = Part , -> 1                                            # (21,): one part, whatever its digits
-Inside = Blanks -> withBlanks
-Inside = Compact -> withDigits
+  | Commas , -> 1  # (2,1,) of Python
+  | Part , -> 1  # (21,): one part, whatever its digits
+  | Blanks -> typedWith blanks
+  | Compact -> typedWith digits
 Round = ( Inside ) -> 2
 Square = [ Inside ] -> 2
-Empty = ∅ -> none
-Empty = ( ) -> none
-Empty = [ ] -> none
-Empty = { } -> none
+Empty = ∅ -> list
+  | ( ) -> list
+  | [ ] -> list
+  | { } -> list
 List "a list" = Round -> 1
-List = Square -> 1
-List = { Inside } -> 2                                          # Mathematica
-List = { Round } -> 2
-List = Empty -> none
-List = yng ( Inside ) -> 3                                      # \yng(2,1)
-List = ydiagram { Inside } -> 3
+  | Square -> 1
+  | { Inside } -> 2  # Mathematica
+  | { Round } -> 2
+  | Empty -> 1
+  | yng ( Inside ) -> 3  # \yng(2,1)
+  | ydiagram { Inside } -> 3
+Lams = Lam , Lam -> list
 Lam "a partition" = List -> 1
-Lam = List ~Prime -> conjugate                                  # (3,1)'
-Lam = List ~^ ~t|T -> conjugate
-Lam = List ~^ ~Prime -> conjugate
-Lam = conjugate|transpose of? Lam -> conjugate
-Lam = partition ( Square ) -> 3                                 # Sage
+  | List ~Prime -> conjugate  # (3,1)'
+  | List ~^ ~t|T -> conjugate
+  | List ~^ ~Prime -> conjugate
+  | conjugate|transpose of? Lam -> conjugate
+  | partition ( Square ) -> 3  # Sage
 Sub = Inside -> 1
-Sub = Round -> 1
-Sub = Square -> 1
-Sub = Empty -> none
-Sub = Inside Prime -> conjugate
-Sub = Round Prime -> conjugate
-Tight = NUM ~, ~NUM -> join                                     # s_2,1: an index without braces
-Tight = Tight ~, ~NUM -> join
-Index "an index" = ~_ ~{ Sub } -> 3                             # s_{2,1}
-Index = ~_ ~NUM -> digits                                       # s_21
-Index = ~_ ~Round -> 2
-Index = ~_ ~Square -> 2
-Index = ~_ ~Empty -> none
-Index = ~_ ~Tight -> ? 2                                        # (a comma with two readings)
-Index = ~Square -> 1                                            # s[2,1]
-Index = ~[ ~] -> none
-Index = ~∅ -> none
-Index = ~[ { Inside } ] -> 3                                    # s[{2,1}], Mathematica
-Index = ~( Inside ) -> called                                   # s(2,1)
-Index = ~( Square ) -> 2                                        # s([2,1]), Sage
-Index = ~NUM -> digits                                          # s21
-IndexPower = ~_ ~NUM ~^ ~NUM -> digitsPower                     # s_1^3 as s_{1^3}
-IndexPower = ~_ ~NUM ~^ ~{ NUM } -> digitsBraced
+  | Round -> 1
+  | Square -> 1
+  | Empty -> 1
+  | Inside Prime -> conjugate
+  | Round Prime -> conjugate
+  | yng ( Inside ) -> 3
+  | ydiagram { Inside } -> 3
+  | □ -> ones "1"
+Tight = NUM ~, ~NUM -> join  # s_2,1: an index without braces
+  | Tight ~, ~NUM -> join
+Index "an index" = ~_ ~{ Sub } -> 3  # s_{2,1}
+  | ~_ ~NUM -> digits  # s_21
+  | ~_ ~Round -> 2
+  | ~_ ~Square -> 2
+  | ~_ ~Empty -> list
+  | ~_ ~Tight -> ? 2  # (a comma with two readings)
+  | ~Square -> 1  # s[2,1]
+  | ~[ ~] -> list
+  | ~∅ -> list
+  | ~[ { Inside } ] -> 3  # s[{2,1}], Mathematica
+  | ~( Inside ) -> called  # s(2,1)
+  | ~( Square ) -> 2  # s([2,1]), Sage
+  | ~NUM -> digits  # s21
+IndexPower = ~_ ~NUM ~^ ~NUM -> digitsPower  # s_1^3 as s_{1^3}
+  | ~_ ~NUM ~^ ~{ NUM } -> digits
 Upper = ~^ ~{ Sub } -> 3
-Upper = ~^ ~Round -> 2
-Upper = ~^ ~Square -> 2
+  | ~^ ~Round -> 2
+  | ~^ ~Square -> 2
 Above = Upper -> 1
-Above = ~^ ~NUM -> digits
+  | ~^ ~NUM -> digits
 Lower = ~_ ~{ Sub } -> 3
-Lower = ~_ ~NUM -> digits
-Lower = ~_ ~Round -> 2
-Exp "an exponent" = ~^ ~NUM -> exponent                         # ^2; ^21 is 21, or 2 and a digit
-Exp = ~^ ~{ NUM } -> exponentBraced
-Exp = ~sup -> exponentBraced
-Exp = ** NUM -> exponentBraced
-Exp = ~^ ~( NUM ) -> exponentBraced
-Arg "a partition" = Lam -> 1                                    # in a phrase
-Arg = s Index -> 2
-Arg = Tightly -> 1
-Arg = Compact -> ? 1                                            # 2: a partition, or a number
-Arg = Blanks -> 1
-Both "two partitions" = Arg and Arg -> pair
-Both = Arg , and? Arg -> pair
-Both = Arg Dot Arg -> pair
-Both = Arg with|by Arg -> pair
+  | ~_ ~NUM -> digits
+  | ~_ ~Round -> 2
+  | ~_ ~Square -> 2
+Exp "an exponent" = ~^ ~NUM -> exponent  # ^2; ^21 is 21, or 2 and a digit
+  | ~^ ~{ NUM } -> exponentBraced
+  | ~sup -> exponentBraced
+  | ** NUM -> exponentBraced
+  | ~^ ~( NUM ) -> exponentBraced
+  | squared -> exponentBraced "2"
+  | cubed -> exponentBraced "3"
+  | to NUM power? -> exponentBraced
+Arg "a partition" = Lam -> 1  # in a phrase
+  | s Index -> 2
+  | Tightly -> 1
+  | Compact -> ? 1  # 2: a partition, or a number
+  | Blanks -> 1
+  | partition Arg -> 2
+  | schur functions Arg -> 3
+By = and|with|by -> ""
+Both "two partitions" = Arg By Arg -> list
+  | Arg , and? Arg -> list
+  | Arg Dot Arg -> list
 
 # ---------------------------------------------------------------- symmetric functions
 Atom "a symmetric function" = Family Index -> atom
-Power = Atom -> 1
-Power = SM IndexPower -> atom                                   # s_1^3 (and no further exponent)
-Power = Atom Exp -> power
-Power = ( Sum ) -> paren
-Power = ( Sum ) Exp -> parenPower
+  | ch ~( S Above ) -> atom s 4  # of a Specht module
+  | frobenius characteristic of? S Above -> atom s 5
+  | symmetricfunctions ( Ring ) . Family ( ) Index -> atom
+Ring = QQ|ZZ -> ""
+Base = Atom -> 1
+  | ( Sum ) -> paren
+Power = Base -> 1
+  | SM IndexPower -> atom  # s_1^3 (and no further exponent)
+  | Base Exp -> powerOf
+Number = NUM -> scalar
+Scalar = Number -> 1
+  | Number Exp -> powerOf
 Factor "a factor" = Power -> 1
-Factor = NUM -> scalar
-Factor = NUM / NUM -> fraction
-Factor = NUM Exp / NUM -> powerFraction
-Factor = frac { NUM } { NUM } -> fraction
-Factor = NUM Exp -> scalarPower
-Term = Factor -> 1
-Term = Term * Factor -> times
-Term = Term ∗ Factor -> ? times                                 # or the internal product
-Term = Term Power -> times                                      # h_3 e_2, 2 s_1
-Term = Term NUM -> ! timesNumber                                # h[2]^{2}3
+  | Scalar -> 1
+  | Scalar / NUM -> fraction
+  | frac { Scalar } { NUM } -> fraction
+Term "an expression" = Factor -> 1
+  | Term * Factor -> timesText
+  | Term ∗ Factor -> ? timesText  # or the internal product
+  | Term Power -> timesText  # h_3 e_2, 2 s_1
+  | Term Scalar -> ! timesText  # h[2]^{2}3
 Sum "an expression" = Term -> 1
-Sum = - Term -> minus
-Sum = Sum Sign Term -> plus
+  | - Term -> minus
+  | Sum Sign Term -> plus
 Basis "a basis" = Family -> 1
-Basis = monomial|monomials -> basis m
-Basis = elementary|elementaries -> basis e
-Basis = complete homogeneous? -> basis h
-Basis = homogeneous|homogeneouses -> basis h
-Basis = power sums -> basis p
-Basis = power - sum|sums -> basis p
-Basis = powersum|powersums -> basis p
-Basis = power sum -> basis p
-Basis = schur|schurs -> basis s
-Basis = Basis functions|polynomials|basis -> 1
-Basis = Basis - basis -> 1                                      # s-basis
-Basis = Basis symmetric functions|polynomials -> 1
+  | Family ~_ Greek -> 1  # m_λ
+  | Family ~_ ~{ Greek } -> 1
+  | monomial|monomials -> word m
+  | elementary|elementaries -> word e
+  | complete homogeneous? -> word h
+  | homogeneous|homogeneouses -> word h
+  | power -? sum|sums -> word p
+  | powersum|powersums -> word p
+  | schur|schurs -> word s
+  | Basis functions|polynomials|basis -> 1
+  | Basis - basis -> 1  # s-basis
+  | Basis symmetric functions|polynomials -> 1
 In = To -> ""
-In = in basis -> ""
-In = in terms of -> ""
-In = as a? sum|combination of -> ""
-In = as a? linear combination of -> ""
-Plethysm "a plethysm" = Power ~[ Sum ] -> nested                # h_2[h_3]
-Plethysm = Power ∘ Power -> composed
-Plethysm = Power ( Sum ) -> nested                              # h_2(h_3): or a product
-Plethysm = Power . plethysm ( Sum ) -> nested                   # Sage
-Plethysm = plethysm of Power and|by|with Power -> composed
-Plethysm = plethysm of Plethysm -> 3
-Omega = ω Family Index -> omega                                 # ω s_{3,1} is s_{2,1,1} (what follows could be under it, too)
-Omega = ω ( Family Index ) -> omega
+  | in basis -> ""
+  | in terms of -> ""
+  | as a? sum|combination of -> ""
+  | as a? linear combination of -> ""
+  | as a? polynomials in -> ""
+  | = Σ ?? -> ""  # h_{22} = Σ m_λ
+  | = ? -> ""
+  | = Σ χ ~^ Greek ~( Inside ) -> ""
+Convert = expand|write|express|convert|rewrite -> ""
+Plethysm "a plethysm" = Power ~[ Sum ] -> composed  # h_2[h_3]
+  | Power ∘ Power -> composed
+  | Power composed with Power -> composed
+  | Power ( Sum ) -> composed  # h_2(h_3): or a product
+  | Power . plethysm ( Sum ) -> composed  # Sage
+  | plethysm of Power By Power -> composed
+  | plethysm Power of Power -> composed
+  | plethysm of? Plethysm -> 3
+Omega = ω Family Index -> omega  # ω s_{3,1} is s_{2,1,1} (what follows could be under it, too)
+  | ω ( Family Index ) -> omega
+  | ω of Family Index -> omega
+  | Family Index . ω ( ) -> omega
 Question = Omega -> bare
-Question = Omega In Basis -> expand
-Question = expand|write|express|convert|rewrite Omega In Basis -> expand
-Question = Sum -> bare
-Question = Sum In Basis -> expand                               # e_3 in h
-Question = Plethysm -> plethysmBare
-Question = Plethysm In Basis -> plethysm
-Question = Family ~( Sum ) -> sageExpand                        # s(h[2,1]), Sage
-Question = Family ~( Plethysm ) -> plethysm 3 1
-Question = expand|write|express|convert|rewrite Sum In Basis -> expand
-Question = expand|write|express|convert|rewrite Plethysm In Basis -> plethysm
-Question = pieri ~: Sum -> bare
-Question = expand|write|express|convert|rewrite Sum -> ! bare   # expand s2: in which basis?
-Question = expand Family ~( Sum ) -> ! sageExpand
-Question = Basis expansion of? Sum -> expand 4 1                # Schur expansion of p_3
-Question = Basis expansion of? Plethysm -> plethysm 4 1
-Question = expansion of? Sum In Basis -> expand
-Question = expansion of? Plethysm In Basis -> plethysm
-Question = expand s Slash In Basis -> skewIn 3 5
-Question = s Slash In Basis -> skewIn 2 4
-SProduct = S Index -> list 2
-SProduct = SProduct *? S Index -> add 1 4
-SProduct = S Index Exp -> listPower
+  | Convert? Omega In Basis -> expand 4 2
+  | Sum -> bare
+  | Convert? Sum In Basis -> expand 4 2  # e_3 in h
+  | Plethysm -> plethysmBare
+  | Convert? Plethysm In Basis -> plethysm 4 2
+  | Family ~( Sum ) -> sageExpand  # s(h[2,1]), Sage
+  | Family ~( Plethysm ) -> plethysm
+  | Convert Sum -> ! bare  # expand s2: in which basis?
+  | expand Family ~( Sum ) -> ! sageExpand
+  | Basis expansion of? Sum -> expand  # Schur expansion of p_3
+  | Basis expansion of? Plethysm -> plethysm
+  | expansion of? Sum In Basis -> expand 5 3
+  | expansion of? Plethysm In Basis -> plethysm 5 3
+  | Convert? Skewed In Basis -> skewIn
+  | Convert? Skewed -> skew
+  | JacobiTrudi OfArg -> expand h
+  | JacobiTrudi σ OfIndex -> expand h
+  | tos ( Sum ) -> expand s  # Stembridge's SF, and Macaulay2
+  | toe ( Sum ) -> expand e
+  | toh ( Sum ) -> expand h
+  | top ( Sum ) -> expand p
+  | tom ( Sum ) -> expand m
+JacobiTrudi = giambelli|jacobi -? trudi? formula|determinant? of|for? -> ""
+SProduct = S Index -> list
+  | SProduct Dot? S Index -> add 1 4
+  | S Index Exp -> listPower
 InVariables = in NUM variables|vars|variable -> 2
-Question = Sum InVariables -> inVariables
-Question = SProduct -> ? multOfS                                # S_{3,2}*S_{2,1}: of Schur, or of Schubert
-SPair = S Index and S Index -> pair 2 5
-Question = product of? SPair -> ? multOfS                       # of Schur, or of Schubert
-SVar = s Index ~( Letters ) -> inLetters                        # s_{2,1}(x_1,x_2)
+SPair = S Index and S Index -> list 2 5
+Several = Power , Power -> timesText
+  | Several , Power -> timesText
+And = Power By Power -> timesText
+  | Several ,? and Power -> timesText
+SAtom = s Index -> atom s
+OfIndex = Index -> atom s
+OfArg = Arg -> atom s
+SVar = SAtom ~( Letters ) -> inLetters  # s_{2,1}(x_1,x_2)
+  | Functor Cn -> inLetters  # Sym^4(C^2)
 SVars = SVar -> list
-SVars = SVars *? SVar -> add
-Question = SVars -> multInLetters
-Question = product of? Power and Power -> bareProduct
-Question = product of? Power , Power and Power -> bareProduct
-Question = multiply Power by|with|and Power -> bareProduct
-Question = product of? Both -> multOfBoth
-Question = multiply Both -> multOfBoth
-Question = littlewood - richardson product|rule of? for? Both -> multOfBoth
-Question = LR|lr product|rule of? for? Both -> multOfBoth
+  | SVars *|⊗? SVar -> add
+Product = product of? Both -> 3
+  | multiply Both -> 2
+  | littlewood - richardson product|rule of? for? Both -> 6
+  | LR|lr product|rule of? for? Both -> 5
+Question = Sum InVariables -> inVariables
+  | SProduct -> ? multOfS  # S_{3,2}*S_{2,1}: of Schur, or of Schubert
+  | product of? SPair -> ? multOfS
+  | SVars -> multInLetters
+  | product of? And -> bare 3
+  | multiply And -> bare 2
+  | Product -> product
+  | Product InVariables -> product
 # skew shapes, coefficients, numbers
 Inner = Lam -> 1
-Inner = Commas -> 1
-Inner = Blanks -> 1
-Inner = Compact -> 1
-Slash = ~_ ~{ Inner Over Inner } -> pair                        # s_{321/21}
-Slash = ~_ ~( Inner Over Inner ) -> pair
-Slash = ~[ Inner Over Inner ] -> pair
-Slash = ~( Inner Over Inner ) -> pair                           # s(32/1)
-Slash = ~_ ~( ( Inside ) Over ( Inside ) ) -> pair
+  | Commas -> 1
+  | Blanks -> 1
+  | Compact -> 1
+Shapes = Inner Over Inner -> list 1 3
+  | ( Inside ) Over ( Inside ) -> list 2 6
+  | [ Inner Over Inner ] -> list 2 4
+Slash = ~_ ~{ Shapes } -> 3  # s_{321/21}
+  | ~_ ~( Shapes ) -> 3
+  | ~[ Shapes ] -> 2
+  | ~( Shapes ) -> 2  # s(32/1)
 Slashed = s Slash -> 2
-Slashed = s Round Over Round -> pair                            # s(3,2)/(1)
-Slashed = s Round Over Empty -> pair
-Slashed = s Empty Over Empty -> pair
-Slashed = s Index Over s Index -> pair                          # s_λ/s_μ
-Slashed = s Index . skew_by ( s Index ) -> pair                 # Sage
-Question = Slashed -> skew
-Question = skew schur? functions? of? for? Slashed -> skew
-Question = skew schur? functions? of? for? shape? Both -> skew
-Question = skew schur? functions? of? for? shape? Skew -> skew
-Question = Slashed InVariables -> skewInVariables
-Question = Slashed ~( Letters ) -> skewInVariables
-Question = Inner Over Inner -> shapeOnly                        # 321/21
-Question = Δ s Index -> coproduct
-Question = Δ ( s Index ) -> coproduct
-Question = s Index . coproduct ( ) -> coproduct
-Question = coproduct of? Arg -> coproduct
-Question = s Index ~( x , y ) ProductsOf -> coproduct 2
-Question = s Index ~( x , y ) -> ? coproduct                    # or the polynomial in two variables
+  | s Round Over Round -> list 2 4  # s(3,2)/(1)
+  | s Round Over Empty -> list 2 4
+  | s Empty Over Empty -> list 2 4
+  | s Index Over s Index -> list 2 5  # s_λ/s_μ
+  | s Index Over ~_ ~{ Sub } -> list 2 6  # s₃₂/₁
+  | s Index ~^ ~⊥ s Index -> list 6 2
+  | s Index ~^ ~{ ⊥ } s Index -> list 8 2
+  | s Index . skew_by ( s Index ) -> list 2 7  # Sage
+  | s ~( skewpartition ( [ Lams ] ) ) -> 6
+  | s . skew_schur ( Lams ) -> 5
+  | S ~^ ~{ Shapes } -> 4  # a skew Specht module
+SkewName = skew schur? functions? of? for? -> ""
+Skewed = Slashed -> 1
+  | SkewName Slashed -> 2
+  | SkewName shape? Both -> 3
+  | SkewName shape? Skew -> 3
+Question = Slashed InVariables -> skew
+  | Slashed ~( Letters ) -> skew
+  | Inner Over Inner -> shapeOnly 1 3  # 321/21
+  | Coproduct EqualsSum? -> coproduct
+Coproduct = Δ of Arg -> 3
+  | Δ s Index -> 3
+  | Δ ( s Index ) -> 4
+  | s Index . coproduct ( ) -> 2
+  | coproduct of? Arg -> 3
+  | s Index ~( x , y ) ProductsOf -> 2
+  | s Index ~( x , y ) -> ? 2  # or the polynomial in two variables
+  | Sch Index ~( V ⊕ W ) -> 2
+  | Sch ~^ ~{ Sub } ~( V ⊕ W ) -> 4
+EqualsSum = = Σ s ~_ ~{ Greek / Greek } ⊗ s ~_ Greek -> ""
 ProductsOf = , in products s ~_ ~{ μ } ( x ) s ~_ ~{ ν } ( y ) -> ""
-ProductsOf = , in products s μ ( x ) s ν ( y ) -> ""
+  | , in products s μ ( x ) s ν ( y ) -> ""
 Cell = Compact -> 1
-Cell = Round -> 1
-Cell = Square -> 1
-Cell = { Inside } -> 2
-Cell = ∅ -> none
-Pair "two partitions" = Cell , Cell -> pair                     # 21,21
-Pair = Cell ␣Cell -> pair
-Pair = Round ~Round -> pair
-Pair = { Sub } { Sub } -> pair
+  | Round -> 1
+  | Square -> 1
+  | { Inside } -> 2
+  | ∅ -> list
+Cells = Cell , Cell -> list  # 21,21
+  | Cell ␣Cell -> list
+  | Bracketed ~Bracketed -> list
+Inners = Inner ; Inner -> list
+Pair "two partitions" = Cells -> 1
+  | Inners -> 1
+  | { Sub } { Sub } -> list 2 5
+Bracketed = Round -> 1
+  | Square -> 1
 Down2 = ~_ ~{ Pair } -> 3
-Coefficient = c Above Down2 -> coef                             # c^{321}_{21,21}
-Coefficient = c Down2 Above -> coef 3 2
-Coefficient = c ~( Cell ; Pair ) -> coef
-Coefficient = c ~( Inner ; Inner ; Inner ) -> coefInTurn
-Question = Coefficient -> 1
-Question = CoefName for? of? Coefficient -> 4
-Question = CoefName for? of? Cell ,|;|: Pair -> coefWithPair
 CoefName = LR coefficient|number -> ""
-CoefName = littlewood - richardson coefficient|number -> ""
-Question = [ s Index ] Sum -> coefficientIn                     # [s_λ] s_μ s_ν
-Question = K Down2 -> kostka                                    # K_{31,1111}
-Question = K|kostka ~( Pair ) -> kostka
-Question = K|kostka ~( Inner ; Inner ) -> kostkaOf              # K(3,1; 2,2)
-Question = kostka number? of? for? Pair -> kostka
-Question = kostka number? of? for? Cell and Cell -> kostkaOf
-Question = kostka number? K Down2 -> kostka
-Question = kostka Blanks -> ! kostkaAll                         # kostka 3 1 1 1 1 1: where the sizes fit
-Question = kostka numbers of? for? Arg -> kostkaNumbers
-Question = number of SSYT of? shape? Arg and content|weight|type Arg -> kostkaOf
-Question = number of semistandard young? tableaux of? shape? Arg and content|weight|type Arg -> kostkaOf
-Question = f Upper -> standard                                  # f^{(3,2,1)}
-Question = f ~^ ~NUM -> ? standardOfNumber                      # f^2: or a square
-Question = number of SYT|tableaux of? shape? Arg -> standard
-Question = number of standard young? tableaux of? shape? Arg -> standard
-Question = SYT of? shape? Arg -> standard
-Question = hook length formula of? for? Arg -> standard
-Question = dimension|dim of? specht module? Arg -> standard
-Question = dimension|dim of? irrep|representation|module|irreducible representation|module? Arg -> ? standard  # of which group?
-Question = dimension|dim of? irrep|representation|module|irreducible|specht representation|module? Arg OfS -> standardOf
-Question = dim|dimension of? Arg OfS -> standardOf
-Question = dim|dimension of? Arg -> ? standard                  # of the symmetric group, or of another one
-OfS = of|for S ~_ ~NUM -> 4
-OfS = of|for S ~_ ~{ NUM } -> 5
-Question = χ Above ~( Inside ) -> character                     # χ^{31}(22)
-Question = χ Above Lower -> character
-Question = χ Lower Above -> character 3 2
-Question = Character χ Above AtClass Arg -> character
-Question = Character Arg AtClass Arg -> character
+  | littlewood - richardson coefficient|number -> ""
+Coefficient = c Above Down2 -> coef
+  | c Down2 Above -> coef 3 2
+  | c ~( Cell ; Cells ) -> coef
+  | c ~( Inner ; Inners ) -> coefWithPair
+  | c ~( Cells ; Cell ) -> coefWithPair 5 3
+Question = CoefName? for? of? Coefficient -> 4
+  | CoefName for? of? Cell ,|;|: Pair -> coefWithPair
+  | lrcoefficient [ Lam , Lams ] -> coefWithPair
+  | c Down2 AllNu? -> ? product 2  # no outer partition: all of them
+  | c Down2 ~^ Greek AllNu? -> product 2
+AllNu = for all Greek -> ""
+CoefOf = coefficient|multiplicity|mult of? -> ""
+  | CoefName of? for? -> ""
+Question = CoefOf Atom in Term -> coefficientIn
+  | CoefOf Atom in Plethysm -> coefficientInPlethysm
+  | [ Atom ] Sum -> coefficientIn  # [s_λ] s_μ s_ν
+  | CoefOf Arg in Both -> coef
+  | CoefOf S|V Index in Tensor -> coef
+  | CoefOf S Above in Specht -> coef
+  | CoefOf S Above in ind ( Specht ) -> coef
+  | mult|multiplicity of? weight Arg in V Index -> kostkaOf 7 4
+  | weight multiplicities of? V OfIndex -> expand m
+  | weight multiplicities of? V OfIndex ForGl -> ! expand m 5
+Kostka = K|kostka ~( Pair ) -> kostka
+  | K|kostka ~( Inner ; Inner ) -> kostkaOf  # K(3,1; 2,2)
+  | K Down2 -> kostka  # K_{31,1111}
+  | K ~_ ~{ Shapes ,? Cell } -> kostkaSkew 4 6
+KostkaName = kostka number|coefficient? of? for? -> ""
+Question = Kostka -> 1
+  | KostkaName Kostka -> 2
+  | Symmetrica? kostka_number ( Lams ) -> kostka  # Sage
+  | kostkanumber [ Lams ] -> kostka
+  | KostkaName Pair -> kostka
+  | KostkaName Arg and Arg -> kostkaOf
+  | kostka Blanks -> ! kostkaAll  # kostka 3 1 1 1 1 1: where the sizes fit
+  | kostka numbers of? for? OfArg -> expand m
+Count = number of all? -> ""
+  | how many -> ""
+  | hash -> ""
+Symmetrica = symmetrica . -> ""
+Cardinality = . cardinality ( ) -> ""
+Semistandard = ssyt|ssyts -> ""
+  | semistandard|column -? strict? young? tableaux -> ""
+Standard = syt|syts -> ""
+  | standard young? tableaux -> ""
+OfShape = of -> ""
+  | of? shape -> ""
+OfContent = ,|and|with? content|weight|type -> ""
+Question = Count Semistandard OfShape? Arg OfContent Arg -> kostkaOf 4 6
+  | Count Semistandard OfShape? Skew OfContent Arg -> kostkaSkew 4 6
+  | Count Standard OfShape? Arg -> standardOf 4
+  | Count tableaux OfShape? Arg -> ? standardOf 4  # standard, or semistandard
+  | standardtableaux ( Square ) Cardinality -> standardOf
+  | semistandardtableaux ( Square , Square ) Cardinality -> kostkaOf
+  | Count Standard OfShape? Skew -> standardSkew 4
+  | Count syt ( Arg ) -> standardOf 4
+  | numberoftableaux [ Lam ] -> standardOf  # Mathematica
+  | | syt ( Arg ) | -> standardOf
+  | | ssyt ( Lams ) | -> kostka
+  | all? Semistandard OfShape? Arg OfContent Arg -> ! kostkaOf
+  | all? Semistandard OfShape? Skew OfContent Arg -> ! kostkaSkew
+  | ssyt ( Inner , Inner ) -> ! kostkaOf
+  | all? Standard OfShape? Arg -> ! standardOf
+Question = f Upper -> standardOf  # f^{(3,2,1)}
+  | f ~^ ~Digits -> ? standardOf  # f^2: or a square
+  | f ~^ ~{ Shapes } -> standardSkew 4
+  | hook length formula? of|for|: dimension? of? Arg -> standardOf 7
+  | dimension of? specht module? Arg -> standardOf 5
+  | dimension of? S Above -> standardOf 4
+  | dimension of? irrep|representation|module|irreducible specht|representation|module? Arg -> ? standardOf 5  # of which group?
+  | dimension of? Irreducible? labelled? by? OfSize -> standardOf
+  | dimension of? Arg -> ? standardOf 3
+Irreducible = irrep|representation|module -> ""
+  | irreducible|specht representation|module? -> ""
+OfS = of|for symmetric? group? S ~_ ~NUM -> 6
+  | of|for symmetric? group? S ~_ ~{ NUM } -> 7
+OfSize = Arg OfS -> ofSize 2 1
+  | OfS of|for|labelled? by? Arg -> ofSize
 Character = character of? -> ""
-Character = value of character of? -> ""
-Character = character value of? -> ""
-AtClass = at|on -> ""
-AtClass = at|on|for cycle|conjugacy? type|class -> ""
-Question = < Sum , Sum > -> inner
-Question = ( Sum , Sum ) -> ? inner
-Question = scalar|hall product of Sum and Sum -> inner
-Question = inner product of Sum and Sum -> ? inner              # or the internal product
-# Schubert polynomials
+  | value of character of? -> ""
+  | character value of? -> ""
+  | value of -> ""
+Module_ = Arg -> 1
+  | for Arg -> 2
+  | OfSize -> 1
+AtClass = at|on|for cycle|conjugacy? type|class? -> ""
+Cycle = NUM - cycle -> 1
+  | transposition -> word "2"
+  | identity -> word "1"
+Question = χ Above ~( Inside ) -> characterOf  # χ^{31}(22)
+  | χ Above ~( Round ) -> characterOf
+  | χ Above Lower -> characterOf
+  | χ Lower Above -> characterOf 3 2
+  | χ Above -> ? characterOnly
+  | χ ( Lam , Lam ) -> characterOf  # Maple
+  | χ Square Square -> characterOf
+  | Symmetrica? charvalue ( Lam , Lam ) -> characterOf
+  | Character? χ Above AtClass Arg -> characterOf 3 5
+  | Character? χ Above AtClass Cycle -> characterAtCycle 3 5
+  | Character Module_ AtClass Arg -> characterOf
+  | Character Module_ AtClass Cycle -> characterAtCycle
+  | Character Module_ -> ? characterOnly
+  | < Sum , Sum > -> inner
+  | Atom . scalar ( Sum ) -> inner  # Sage
+  | ( Sum , Sum ) -> ? inner
+  | scalar|hall product of Sum and Sum -> inner
+  | inner product of Sum and Sum -> ? inner  # or the internal product
+# ---------------------------------------------------------------- Schubert polynomials
 PSub = Inside -> 1
-PSub = Round -> roundPermutation
-PSub = Square -> 1
+  | Simple -> simple
+  | Round -> roundPermutation
+  | Square -> 1
 Perm "a permutation" = ~_ ~{ PSub } -> 3
-Perm = ~_ ~NUM -> digits
-Perm = ~_ ~Round -> roundPermutation
-Perm = ~_ ~Square -> 2
-Perm = ~Square -> 1
-Perm = ~Round -> roundPermutation
-Perm = ~( Square ) -> 2
-Perm = ~[ { Inside } ] -> 3
-Perm = ~NUM -> digits
-Perm = ~Tight -> ? 1                                            # S10,1,2,..
+  | ~_ ~NUM -> digits
+  | ~_ ~Round -> roundPermutation
+  | ~_ ~Square -> 2
+  | ~Square -> 1
+  | ~Round -> roundPermutation
+  | ~( Square ) -> 2
+  | ~[ { Inside } ] -> 3
+  | ~NUM -> digits
+  | ~Tight -> ? 1  # S10,1,2,..
 SPoly "a Schubert polynomial" = Sch Perm -> 2
-SPoly = X ~Square -> 2                                          # Sage
-SPoly = X ~( Square ) -> 3
-SPoly = schubert polynomial of? SPoly -> 4
+  | schubertpolynomialring ( Ring ) ( Square ) -> 6
+  | SPoly . expand ( ) -> 1
+  | { Sch } Perm -> 4  # {\mathfrak S}_w
+  | X ~Square -> 2  # Sage
+  | X ~( Square ) -> 3
+  | schubert polynomials of? SPoly -> 4
 DPoly = SPoly ~( x ;|, y ) -> 1
 SPolys = SPoly -> list
-SPolys = SPoly Exp -> listPower
-SPolys = SPolys Dot? SPoly -> add
+  | SPoly Exp -> listPower
+  | SPolys Dot? SPoly -> add
 DPolys = DPoly -> list
-DPolys = DPolys Dot? DPoly -> add
-DPolys = DPoly Exp -> listPower
+  | DPolys Dot? DPoly -> add
+  | DPoly Exp -> listPower
+OfW = w = -> ""
+  | permutation -> ""
 Question = SPolys -> schubertProduct
-Question = DPolys -> doubleProduct
-Question = product of? SPoly and SPoly -> schubertPair
-Question = product of? schubert polynomials SPoly and SPoly -> schubertPair
-Question = schubert product of? WOther -> schubmult
-Question = product of? schubert polynomials of? for? WOther -> schubmult
-Question = schubert polynomial of? for? W? WPerm -> schubert
-W = w = -> ""
-Question = F Perm -> stanley                                    # F_{321}
-Question = F Perm InVariables -> stanleyIn
-Question = F Perm ~( Letters ) -> stanleyIn
-Letters = x ~_ ~NUM -> firstLetter
-Letters = Letters , x ~_ ~NUM -> nextLetter
-Question = Stanley F Perm -> stanley
-Question = Stanley F Perm InVariables -> stanleyIn
-Question = Stanley of? for? W? WPerm -> stanley
-Question = Stanley of? for? W? WPerm InVariables -> stanleyIn
+  | S Index -> ? schurOfS  # S_{321}: of Schubert, or of Schur
+  | SPolys in cohomology? of? Fl ( NUM ) -> ? schubertProduct 1
+  | SPolys in H Star ~( Fl ( NUM ) ) -> ? schubertProduct 1
+  | DPolys -> permuted dschubmult
+  | product of? schubert? polynomials? SPolys By SPoly -> permuted schubmult 5 7
+  | schubert product of? WOther -> permuted schubmult
+  | schubmult_py WOther -> permuted schubmult
+  | lrcalc . mult_schubert WOther -> permuted schubmult
+  | product of? schubert polynomials of? for? WOther -> permuted schubmult
+  | schubert polynomials of? for? OfW? WPerm -> permuted schubert 6
+  | F Perm -> ? stanleyOrInverse  # F_{321}: of Stanley, or fundamental
+  | F Perm InVariables -> ? stanleyOf
+  | permutation ( Square ) . stanley_symmetric_function ( ) -> ? stanleyOrInverse
+  | F Perm ~( Letters ) -> ? stanleyOf
+  | Stanley F Perm -> stanleyOf
+  | Stanley F Perm InVariables -> stanleyOf
+  | Stanley of? for? OfW? WPerm -> stanleyOf 5
+  | Stanley of? for? OfW? WPerm InVariables -> stanleyOf 5 6
+Letters = x ~_ ~NUM -> nextLetter "0"
+  | Letters , x ~_ ~NUM -> nextLetter
 Stanley = stanley symmetric? functions? -> ""
-Stanley = stable schubert polynomial -> ""
-# the Grassmannian
-GrOf "Gr(k,n)" = Gr|G ( NUM , NUM ) -> grassmannian
-GrOf = grassmannian Gr|G? ( NUM , NUM ) -> grassmannian
-GrOf = 𝔾 ( NUM , NUM ) -> blackboard                            # of projective subspaces, or as Gr
-GrOf = P ~^ ~NUM -> projective                                  # P^2
-GrOf = P ~^ ~{ NUM } -> projective
+  | stable schubert polynomials -> ""
+# ---------------------------------------------------------------- the Grassmannian
+GrOf "Gr(k,n)" = Gr ( NUM , NUM ) -> grassmannian
+  | Gr|G ( NUM , C ~^ ~NUM ) -> grassmannian  # Gr(2,C^5)
+  | Gr|G ( NUM , C ~^ ~{ NUM } ) -> grassmannian
+  | grassmannian Gr? ( NUM , NUM ) -> grassmannian
+  | 𝔾 ( NUM , NUM ) -> subspaces  # of projective subspaces, or as Gr
+  | grassmannian? G|𝔾 ( NUM , NUM ) -> grassmannian
+  | grassmannian? G ( NUM , NUM ) -> subspaces
+  | P ~^ ~NUM -> boxOf "1"  # P^2
+  | P ~^ ~{ NUM } -> boxOf "1"
+  | Gr|G ( NUM , NUM ) -> ! grassmannian 5 3
+Star = ~Ast -> ""
+  | ~^ ~Ast -> ""
+  | ~^ ~{ ~Ast ~} -> ""
+  | ~^ ~{ NUM } -> ""
+InField = , Z|ℤ|Q|ℚ|C|ℂ -> ""
 Space "Gr(k,n)" = GrOf -> 1
-Space = H ~Ast ~( GrOf ) -> 4
-Space = H ~^ ~Ast ~( GrOf ) -> 5
-Space = H ~^ ~{ ~Ast ~} ~( GrOf ) -> 7
-Space = cohomology of GrOf -> 3
-Space = QH ~Ast? ~( GrOf ) -> quantumSpace
-Space = QH ~^ ~Ast ~( GrOf ) -> quantumSpace
-Space = QH ~^ ~{ ~Ast ~} ~( GrOf ) -> quantumSpace
-Space = quantum cohomology of GrOf -> quantumSpace
+  | H|A Star ~( GrOf InField? ) -> 4
+  | cohomology|chow ring? of GrOf -> 4
+  | QH Star? ~( GrOf InField? ) -> space quantum 4
+  | quantum cohomology ring? of GrOf -> space quantum
+  | qcoh of? GrOf -> space quantum
 Where = Space -> 1
-Where = in|of|for Space -> 2
+  | in|of|for|on Space -> 2
+QWhere = Where -> space quantum
+OWhere = Where -> space ordinary
+PointClass = point class? -> point
+  | [ pt ] -> point
 Class "a class" = σ Index -> 2
-Class = s Index -> 2
-Class = Lam -> 1
-Class = NUM -> ! digits                                         # 2*1 in QH*(Gr(2,4))
+  | s Index -> 2
+  | Lam -> 1
+  | NUM -> ! digits  # 2*1 in QH*(Gr(2,4))
+  | [ X Index ] -> 3
+  | PointClass -> 1
+  | c ~_ ~NUM ~( Q ) -> list  # Chern classes of the quotient, and of the dual of the sub-bundle
+  | c ~_ ~NUM ~( S ~^ ~Ast ) -> ones
 ClassPower = Class -> list
-ClassPower = σ IndexPower -> list
-ClassPower = Class Exp -> listPower
+  | σ IndexPower -> list
+  | Class Exp -> listPower
 Classes = ClassPower -> 1
-Classes = Classes Dot ClassPower -> addAll
-Classes = Classes ClassPower -> addAll
-Question = Classes ,|:? Where -> inSpace
-Question = Where ,|:? Classes -> inSpace 3 1
-Question = cup? product of? Classes and Classes Where -> productInSpace
-Question = product of? Both Where -> inSpace 3 4
-Question = quantum product of? Both Where -> inQuantum
-Question = quantum product of? Classes and Classes Where -> productInQuantum
-Question = degree|deg of? GrOf -> degree
+  | Classes Dot ClassPower -> addAll
+  | Classes ClassPower -> addAll
+ClassPair = Classes By Classes -> addAll
+ProductOf = cup? product of? -> ""
+  | multiply -> ""
+Question = Classes ,|:? Where -> classesIn
+  | Where ,|:? Classes -> classesIn 3 1
+  | Where ,|:? ProductOf ClassPair -> classesIn 4 1
+  | ProductOf ClassPair ,? Where -> classesIn
+  | product of? Both Where -> classesIn
+  | quantum product of? Both QWhere -> classesIn
+  | quantum product of? ClassPair QWhere -> classesIn
+  | quantum ~: Classes QWhere -> classesIn
+  | Classes mod q ,? OWhere -> classesIn
+  | q - term of? Classes QWhere -> ? classesIn
+  | ∫ ~_ ~{ GrOf } Classes -> integral 6 4
+  | ∫ ~_ ~GrOf Classes -> integral 4 3
+  | Classes Where ,? coefficient of PointClass -> integral 1 2
+  | coefficient of? PointClass in Classes Where -> integral 5 6
+  | coefficient of? Class in Classes Where -> classCoefficient
+  | intersection number of? Classes Where -> integral 4 5
+  | GwName? < Class , Class , Class > ~_ ~{ d = NUM } Where -> invariant
+  | GwName? < Class , Class , Class > ~_ ~NUM Where -> invariant
+  | degree of? GrOf -> degree
+  | Count lines Meeting NUM general|given? lines in P ~^ ~NUM -> lines 4 10
+  | Count lines in NUM - space Meeting NUM general|given? lines -> lines 8 4
+  | Count NUM - planes in C ~^ ~NUM Meeting NUM general|given? NUM - planes nontrivially? -> planes 2 8 10 12
+  | Classes in Gr|G ( k , n ) -> ! product 1
+GwName = gromov - witten invariant of? -> ""
+Meeting = meet|meeting|intersecting -> ""
 SProduct2 = σ Index -> list
-SProduct2 = σ Index Exp -> listPower
-SProduct2 = SProduct2 Dot? σ Index -> add 1 4
-Question = SProduct2 -> ! product                               # σ_1^4: no Gr(k,n) is said
+  | σ Index Exp -> listPower
+  | SProduct2 Dot? σ Index -> add 1 4
+SigmaPair = SProduct2 By SProduct2 -> addAll
 ListFactor = Round -> list
-ListFactor = Square -> list
-ListFactor = { Inside } -> list
-ListFactor = Round Exp -> listPower
-ListProduct = ListFactor * ListFactor -> addAll                 # (2,1)*(2,1)
-ListProduct = ListProduct * ListFactor -> addAll
-ListProduct = ListFactor ∗ ListFactor -> ? addAll               # or the internal product
-ListProduct = ListProduct ∗ ListFactor -> ? addAll
-ListProduct = Round Exp -> listPower                            # (2,1)^2
-Question = ListProduct -> listProduct
-Question = ListProduct InVariables -> listProductIn
-Juxtaposed = Round Round -> pair
-Juxtaposed = Juxtaposed Round -> add
-Question = Juxtaposed -> ? product                              # (3,1)(2): a product of s, or of cycles
+  | Square -> list
+  | { Inside } -> list
+  | Round Exp -> listPower
+ListProduct = ListFactor * ListFactor -> addAll  # (2,1)*(2,1)
+  | ListProduct * ListFactor -> addAll
+  | ListFactor ∗ ListFactor -> ? addAll  # or the internal product
+  | ListProduct ∗ ListFactor -> ? addAll
+  | Round Exp -> listPower  # (2,1)^2
+Juxtaposed = Round Round -> list
+  | Juxtaposed Round -> add
+Question = SProduct2 -> ! product  # σ_1^4: no Gr(k,n) is said
+  | ProductOf SigmaPair -> ! product
+  | ProductOf SigmaPair in grassmannian -> ! product 2
+  | ListProduct -> listProduct
+  | ListProduct InVariables -> product
+  | Juxtaposed -> ? product  # (3,1)(2): a product of s, or of cycles
+# ---------------------------------------------------------------- modules of GL_n and of S_n
+Indexed = s|V Index -> typedWith index
 Tensor = ListFactor ⊗ ListFactor -> addAll
-Tensor = Tensor ⊗ ListFactor -> addAll
-Tensor = s|V Index ⊗ s|V Index -> pair 2 5
-Tensor = Tensor ⊗ s|V Index -> add 1 4
-Question = Tensor -> ! product                                  # of modules of GL
-Question = Tensor for|of|in? GlOf -> listProductIn
-Question = product of? Tensor for|of|in? GlOf -> listProductIn 3 5
+  | Tensor ⊗ ListFactor -> addAll
+  | Indexed ⊗ Indexed -> list
+  | Tensor ⊗ Indexed -> add
+Degree = ~^ ~NUM -> 2
+  | ~^ ~{ NUM } -> 3
+  | ~sup -> 1
+Functor "a functor" = sym Degree -> functor h
+  | Λ Degree -> functor e
+  | S Above -> atom s 2
+  | S Index -> atom s 2
+V_ = V -> ""
+  | ( V ) -> ""
+Cn = C ~^ ~NUM -> 3
+  | ( C ~^ ~NUM ) -> 4
+Module = V -> vector
+  | Functor V_ -> 1
+Modules = Module ⊗ Module -> timesText
+  | Modules ⊗ Module -> timesText
+  | V ~^ ~{ ⊗ NUM } -> tensorPower
+Composite = Functor ( Functor V_ ) -> composed
+  | Functor ( V_ ) ( Functor V_ ) -> composed
+  | Functor Functor V_ -> composed
+  | Functor ( Modules ) -> composed
+CompositeIn = Functor ( Functor Cn ) -> composed 1 3
 GlOf = GL ~_ ~NUM -> 3
-GlOf = GL ~_ ~{ NUM } -> 4
-GlOf = GL ( NUM ) -> 3
+  | GL ~_ ~{ NUM } -> 4
+  | GL ( NUM ) -> 3
+  | GL ~NUM -> 2
+ForGl = for|of|in|,? GlOf -> 2
+  | as a? GlOf - representation|module -> 3
+  | , dimension V = NUM -> 5
+Specht = S Above ⊗ S Above -> list 2 5
+  | Specht ⊗ S Above -> add 1 4
+Young = S ~_ ~NUM * S ~_ ~NUM -> list
+  | Young * S ~_ ~NUM -> add
+UpTo = ~^ ~{ S ~_ ~NUM } -> 5
+Question = Tensor -> ! product  # of modules of GL
+  | product? of? Tensor ForGl -> product
+  | Modules -> inSchur
+  | Modules ForGl -> inVariables
+  | Composite -> plethysm s
+  | CompositeIn -> ! plethysm s
+  | Specht -> ? product  # induced, or the Kronecker product
+  | ind ~( Specht ) -> product
+  | ind ~_ ~{ Young } UpTo? Specht -> induced 4 6 7
+  | ind ~_ ~{ Young } UpTo? NUM -> permutationModule 4 6 7
+  | res ~_ ~{ S ~_ ~NUM } S Above -> restricted 6 9
+  | res UpTo? ~_ ~{ Young } S Above -> ? coproduct 8
+  | Permutations -> ? expand s
+  | Permutations ModulesOf -> expand s 1
+Permutations = M Above -> atom h
+ModulesOf = in|into|to specht|irreducible? modules -> ""
 Fused = Tensor -> 1
-Fused = Both -> 1
-Lie = su|SU|U|sl|SL ( NUM ) -> 3
-Lie = su|SU|sl|SL ~_ ~NUM -> 3
-Lie = su|SU|sl|SL ~NUM -> 2
-Lie = su|SU|sl|SL ~_ ~{ NUM } -> 4
+  | Both -> 1
+LieName = su|SU|sl|SL -> ""
+  | widehat ~{ su|sl } -> ""
+Lie = LieName ( NUM ) -> 3
+  | U ( NUM ) -> ? 3
+  | LieName ~_ ~NUM -> 3
+  | LieName ~NUM -> 2
+  | LieName ~_ ~{ NUM } -> 4
 Level = at|, level NUM -> 3
-Level = level NUM -> 2
-Question = Fused for|of|in? Lie Level -> fusionFor
-Question = fusion product|rule|rules of Fused for|of|in? Lie Level -> fusionFor 4 6 7
-Question = Lie Level fusion product? of? Fused -> fusionFor 6 1 2
+  | , k = NUM -> 4
+  | level NUM -> 2
+  | ~_ ~NUM -> 2
+FusionOf = fusion product|rule|rules? of? -> ""
+Question = Fused for|of|in|,? Lie Level -> fusionFor
+  | FusionOf Fused for|of|in|,? Lie Level -> fusionFor
+  | Lie Level :? FusionOf? Fused -> fusionFor 5 1 2
 
 # ---------------------------------------------------------------- the arguments of a command
 Operand = Lam -> operand list
-Operand = Letter -> 1
-Letter = s|σ Index -> operand list
-Letter = s|σ IndexPower -> operand list
-Times = Lam Exp -> operandPower                                 # (2,1)^2
-Times = s|σ Index Exp -> operandPower
+  | Letter -> 1
+Letter = TypedLetter -> operand list
+TypedLetter = s|σ Index -> typedWith index
+  | s|σ IndexPower -> typedWith index
+Times = Lam Exp -> operandPower  # (2,1)^2
+  | s|σ Index Exp -> operandPower
 Any "a list" = Operand -> 1
-Any = Times -> 1
-Any = Blanks -> operand blanks
-Any = Tightly -> operand commas
-Any = Loosely -> operand commas
-Any = Compact -> operandDigits
+  | Times -> 1
+  | Blanks -> operand blanks
+  | Tightly -> operand commas
+  | Loosely -> operand commas
+  | Compact -> operandDigits
 Cut = Operand -> 1
-Cut = Times -> 1
-Cut = Tightly -> operand commas
-Cut = Compact -> operandDigits
-Cut = Blanks -> ? operand blanks                                # 2,1 1,1 as 2 · (1 1) · 1
+  | Times -> 1
+  | Tightly -> operand commas
+  | Compact -> operandDigits
+  | Blanks -> ? operand blanks  # 2,1 1,1 as 2 · (1 1) · 1
 Loose = Cut -> 1
-Loose = Blanks -> operand blanks
+  | Blanks -> operand blanks
 Beside = Operand -> 1
-Beside = Times -> 1
-Beside = Tightly -> operand commas
-Beside = Loosely -> operand commas
-Beside = Compact -> operandDigits
-Dash = Any ␣- ␣Any -> pair
-Dash = Dash ␣- ␣Any -> add
-DashTight = Any - Any -> ! pair                                 # 2 1 -1: a sign right before a number
-DashTight = DashTight - Any -> add
-Star = Any *|∗|⊗ Any -> pair
-Star = Star *|∗|⊗ Any -> add
+  | Times -> 1
+  | Tightly -> operand commas
+  | Loosely -> operand commas
+  | Compact -> operandDigits
+Dash = Any ␣- ␣Any -> list
+  | Dash ␣- ␣Any -> add
+DashTight = Any - Any -> ! list  # 2 1 -1: a sign right before a number
+  | DashTight - Any -> add
+Star_ = Any *|∗|⊗ Any -> list
+  | Star_ *|∗|⊗ Any -> add
 Comma = CommaA -> 1
-Comma = CommaB -> 1
-CommaA = Cut , Cut -> pair
-CommaA = CommaA , Cut -> add
-CommaB = Loose , ␣Loose -> pair                                 # 2 1, 2 1
-CommaB = CommaB , ␣Loose -> add
-CommaC = Loose , Loose -> pair                                  # in the parentheses of a call: mult(2 1,2 1)
-CommaC = CommaC , Loose -> add
-Side = Beside ␣Beside -> pair
-Side = Operand Letter -> pair
-Side = Beside Beside -> ! pair                                  # 3,2(1)
-Side = Side Beside -> ! add
-Side = Adjacent Adjacent -> pair
+  | CommaB -> 1
+CommaA = Cut , Cut -> list
+  | CommaA , Cut -> add
+CommaB = Loose , ␣Loose -> list  # 2 1, 2 1
+  | CommaB , ␣Loose -> add
+CommaC = Loose , Loose -> list  # in the parentheses of a call: mult(2 1,2 1)
+  | CommaC , Loose -> add
+Call = CommaC -> factorsOf comma
+Side = Beside ␣Beside -> list
+  | Operand Letter -> list
+  | Beside Beside -> ! list  # 3,2(1)
+  | Side Beside -> ! add
+  | Adjacent Adjacent -> list
+  | Side ␣Beside -> add
+  | Side Letter -> add
+  | Side ~Adjacent -> add
 Adjacent = Lam -> operand list
-Side = Side ␣Beside -> add
-Side = Side Letter -> add
-Side = Side ~Adjacent -> add
-Factors "lists" = Dash -> factors dash
-Factors = - ␣Any -> ? emptyFirst                                # an empty list first
-Factors = Side , Cut -> ? oneMore                               # (2,1) 1, 1
-Factors = DashTight -> factors dash
-Factors = Star -> factors star
-Factors = Comma -> factors comma
-Factors = Side -> factors side
-Factors = ( CommaC ) -> factors comma
-Factors = ( Side ) -> factors side
-Factors = ( Dash ) -> factors dash
-Factors = ( Star ) -> factors star
-Factors = Times -> factorsPower
-Rows "the number of variables" = -r NUM -> rows
-Rows = in NUM variables -> rows
+SideComma = Side , Cut -> add  # (2,1) 1, 1
+Factors "lists" = Dash -> factorsOf dash
+  | - ␣Any -> ? emptyFirst  # an empty list first
+  | SideComma -> ? factorsOf comma
+  | DashTight -> factorsOf dash
+  | Star_ -> factorsOf star
+  | Comma -> factorsOf comma
+  | Side -> factorsOf side
+  | ( Call ) -> 2
+  | ( Side ) -> factorsOf side
+  | ( Dash ) -> factorsOf dash
+  | ( Star_ ) -> factorsOf star
+  | Times -> factorsOf star
 Opt = Rows -> 1
-Opt = -m -> oneLine
+  | -m -> word -m
+Rows "the number of variables" = -r NUM -> variables
+  | in NUM variables -> variables
+  | , maxrows = NUM -> variables  # lrcalc in Python
 Command = mult Opt? Opt? Factors Opt? Opt? -> mult
-Command = mult ( CommaC , maxrows = NUM ) -> multCall           # lrcalc in Python
-Command = mult Factors ,|:? Where -> multInSpace
-Command = mult Where ,|:? Factors -> multInSpace 4 2
-Command = mult Any Over Any -> ! skewOfOperands                 # mult (2,1)/(1)
-Scaled = NUM ~Lam -> scaled                                     # mult 2(2,1) - 1: a coefficient
-Scaled = NUM ~s Index -> scaled 1 3
-Scaled = Scaled ␣- ␣Any -> scaledTimes
-Scaled = Scaled Dot? Operand -> scaledTimes
-Command = mult Scaled -> ! expandScaled
-Command = mult - Operand ␣- ␣Any -> ! minusTimes
-Command = mult SProduct -> ? multOfS                            # S: of Schur or of Schubert
-Command = mult SPolys -> ? schubertProduct
+  | mult ( Call Rows ) -> mult
+  | mult Factors ,|:? Where -> productIn
+  | mult Where ,|:? Factors -> productIn 4 2
+  | mult Skew -> ! skew  # mult (2,1)/(1)
+  | mult Scaled -> ! expand s
+  | mult SProduct -> ? multOfS  # S: of Schur or of Schubert
+  | mult SPolys -> ? schubertProduct
+OfLam = Lam -> atom s
+OfAny = Any -> schurOf
+OfOperand = Operand -> schurOf
+Scaled = Scalar ~OfLam -> timesText  # mult 2(2,1) - 1: a coefficient
+  | Scalar ~SAtom -> timesText
+  | Negative ␣- ␣OfAny -> timesText
+  | Scaled ␣- ␣OfAny -> timesText
+  | Scaled Dot? OfOperand -> timesText
+Negative = - OfOperand -> minus
 Command = coef|lrcoef|LR Factors -> coefOf
-Command = coef|coefficient of? SOperand in Star -> coefInStar
-Command = coef|coefficient of? s Index in Term -> coefInTerm
-Command = coef Star SOperand -> coefInStar 3 2                  # coef (2,1)*(2,1) (3,2,1): the product is one thing
-SOperand = Operand -> 1
-Command = skew Opt? Shape Opt? -> skewWith
-Skew "a skew shape" = Any Over Any -> shape
-Skew = ( Any Over Any ) -> shape
+  | coef|coefficient of? OperandList in StarLists -> coef
+  | coef StarLists OperandList -> coef 3 2  # coef (2,1)*(2,1) (3,2,1): the product is one thing
+  | skew Opt? Shape Opt? -> skewWith
+  | coprod One -> coproduct
+AnyList = Any -> listOf
+OperandList = Operand -> listOf
+StarLists = AnyList *|∗|⊗ AnyList -> list
+  | StarLists *|∗|⊗ AnyList -> add
+Skew "a skew shape" = AnyList Over AnyList -> list
+  | ( AnyList Over AnyList ) -> list
+  | [ AnyList Over AnyList ] -> list
 Shape "a skew shape" = Skew -> 1
-Shape = Factors -> shapeOfTwo
-Shape = Dash -> ! shapeOfDash                                   # skew (3,2,1) - (2,1)
-Shape = [ Square , Square ] -> pair
-Command = coprod One -> ofPartition coprod
-One = Any -> 1
-One = ( Any ) -> 2
-Command = quantum Where ,|:? Factors -> quantumIn 4 2
-Command = quantum Factors Where -> quantumIn
-Command = quantum Where ,|:? NUM ,? NUM Factors -> ? quantumTwice 7 2 4 6  # the numbers of Gr(k,n) once more
-Command = quantum NUM ,? NUM Factors Where -> ? quantumTwice 5 6 2 4
-Command = quantum NUM ,? NUM Factors -> quantum                 # quantum 2 2 (2,1) (2,1)
-Command = quantum ( NUM , NUM , CommaC ) -> quantumCall
-Command = quantum ( GrOf , CommaC ) -> quantumCallIn
-Command = quantum ( NUM , NUM ) Factors -> ! quantum
-Command = quantum NUM Factors -> ! quantumRows                  # n-k is missing
-Command = quantum Factors -> ! quantumLeast                     # k and n-k are missing
-Command = fusion NUM NUM Factors -> fusion
-Command = fusion ( NUM , NUM , CommaC ) -> fusionCall
-Command = fusion Lie Level :? Factors -> fusion 2 3 5
-Command = fusion Factors for|of|in? Lie Level -> fusion 4 5 2
-Command = fusion ( NUM , NUM ) Factors -> ! fusion
-Command = fusion NUM Factors -> ! fusionRows
-Command = fusion Factors -> ! fusionLeast
+  | Factors -> shapeOfTwo
+  | AnyList ␣- ␣AnyList -> ! list  # skew (3,2,1) - (2,1)
+  | [ Square , Square ] -> list
+One = AnyList -> 1
+  | ( AnyList ) -> 2
+Box = NUM ,? NUM -> boxOf
+Command = quantum QWhere ,|:? Factors -> productIn 4 2
+  | quantum Factors QWhere -> productIn
+  | quantum QWhere ,|:? Box Factors -> ? productIn 5 2 4  # the numbers of Gr(k,n) once more
+  | quantum Box Factors QWhere -> ? productIn 3 4 2
+  | quantum QBox Factors -> productIn 3 2  # quantum 2 2 (2,1) (2,1)
+  | quantum ( QBox , Call ) -> productIn 5 3
+  | quantum ( QWhere , Call ) -> productIn 5 3
+  | quantum ( QBox ) Factors -> ! productIn 5 3
+  | quantum NUM Factors -> ! quantumLeast 3 2  # n-k is missing
+  | quantum Factors -> ! quantumLeast  # k and n-k are missing
+  | fusion NUM NUM Factors -> fusion
+  | fusion ( NUM , NUM , Call ) -> fusion
+  | fusion Lie Level :? Factors -> fusionFor 5 2 3
+  | fusion Factors for|of|in? Lie Level -> fusionFor
+  | fusion ( NUM , NUM ) Factors -> ! fusion
+  | fusion NUM Factors -> ! fusionLeast 3 2
+  | fusion Factors -> ! fusionLeast
 WPerm "a permutation" = Square -> 1
-WPerm = { Inside } -> 2
-WPerm = Cycles -> 1
-WPerm = Compact -> 1
-WPerm = Commas -> 1
-WPerm = Blanks -> 1
-WPerm = ( Square ) -> 2
-WPerm = Sch Perm -> 2
-WPerm = σ ~Index -> ! 2
-WPerm = Simple -> simple
-Simple = s ~_ ~NUM -> list                                      # s_1 s_2: simple transpositions
-Simple = Simple *? s ~_ ~NUM -> add
+  | { Inside } -> 2
+  | Cycles -> 1
+  | Compact -> 1
+  | Commas -> 1
+  | Blanks -> 1
+  | ( Square ) -> 2
+  | Sch Perm -> 2
+  | σ ~Index -> ! 2
+  | Simple -> simple
+Simple = s ~_ ~NUM -> list  # s_1 s_2: simple transpositions
+  | Simple *? s ~_ ~NUM -> add
 Cycles = Round -> roundPermutation
-Cycles = CycleList -> cycles                                    # (1 2)(2 3): from the right, or from the left
-CycleList = Round Round -> pair
-CycleList = CycleList Round -> add
-WOther "two permutations" = ( Square , Square ) -> pair
-WOther = ( Round , Round ) -> roundPair
-WOther = WPerm ␣- ␣WPerm -> pair
-WOther = WPerm * WPerm -> pair
-WOther = WPerm WPerm -> pair
-WOther = WPerm , WPerm -> pair
-WOther = WPerm and WPerm -> pair
-Command = schubert WPerm -> schubert
-Command = growth WPerm -> growth
-Command = growth diagram of? for? permutation? WPerm -> growth
-Command = schubmult WOther -> schubmult
-Command = dschubmult WOther -> dschubmult
-Command = stanley Opt WPerm -> stanleyWith
-Command = stanley WPerm Opt -> stanleyWith 3 2
-Command = stanley ( NUM , WPerm ) -> stanleyIn 5 3
-Command = stanley WPerm -> ! stanley
+  | CycleList -> cycles  # (1 2)(2 3): from the right, or from the left
+CycleList = Round Round -> list
+  | CycleList Round -> add
+WOther "two permutations" = ( Square , Square ) -> list
+  | ( Round , Round ) -> roundPair
+  | WPerm ␣- ␣WPerm -> list
+  | WPerm * WPerm -> list
+  | WPerm WPerm -> list
+  | WPerm , WPerm -> list
+  | WPerm and WPerm -> list
+Command = schubert WPerm -> permuted schubert
+  | growth WPerm -> permuted growth
+  | schubmult WOther -> permuted schubmult
+  | dschubmult WOther -> permuted dschubmult
+  | stanley Opt WPerm -> stanleyOf 3 2
+  | stanley WPerm Opt -> stanleyOf
+  | stanley ( NUM , WPerm ) -> stanleyOf 5 3
+  | stanley WPerm -> ! stanleyOf
+  | rsk Word -> rsk
 Word "a word" = WPerm -> 1
-Word = Blanks -> 1
-Command = rsk Word -> rsk
-Question = P and|, Q of|for Word -> rsk
-Question = Rsk of? for? Word -> rsk
-Question = P and|, Q of|for NamedWord -> rsk
-Question = Rsk of? for? NamedWord -> rsk
-Question = rsk of|for Word -> rsk
-Question = rsk of|for NamedWord -> rsk
-Question = rsk NamedWord -> rsk
-NamedWord = word InTurn -> 2
-NamedWord = permutation WPerm -> 2
-NamedWord = empty word -> none
+  | Blanks -> 1
+  | word InTurn -> 2
+  | permutation WPerm -> 2
+  | empty word -> list
+Question = growth diagram of? for? permutation? WPerm -> permuted growth 6
+  | Rsk of|for|to|on? Word -> rsk
+  | P and|, Q tableaux|tableau? of|for Word -> rsk
+  | P|Q ~( WPerm ) -> ? rsk  # or a function P of Hall and Littlewood
 InTurn = Inside -> 1
-InTurn = Round -> 1
-InTurn = Square -> 1
-InTurn = Part -> 1
-Rsk = rsk correspondence -> ""
-Rsk = robinson - schensted correspondence? -> ""
-Rsk = robinson - schensted - knuth correspondence? -> ""
-Rsk = insertion|recording|P|Q tableau -> ""
-Rsk = insertion|recording tableaux -> ""
+  | Round -> 1
+  | Square -> 1
+  | Part -> 1
+Rsk = rsk correspondence? -> ""
+  | robinson - schensted -? knuth? correspondence? -> ""
+  | insertion|recording|P|Q tableau -> ""
+  | insertion|recording tableaux -> ""
 TRow = Square -> 1
-TRow = Round -> 1
-TRow = [ ] -> none
+  | Round -> 1
+  | [ ] -> list
 TRows = TRow -> list
-TRows = TRows ,? TRow -> add
-YRows = NUM -> digitRow
-YRows = YRows , NUM -> addDigitRow
+  | TRows ,? TRow -> add
+YRow = NUM -> letters
+YRows = YRow -> list
+  | YRows , YRow -> add
 ARow = NUM -> list
-ARow = ARow & NUM -> add
+  | ARow & NUM -> add
 ARows = ARow -> list
-ARows = ARows \\ ARow -> add
-Slashes = BRow / BRow -> pair
-Slashes = Slashes / BRow -> add
+  | ARows \\ ARow -> add
 BRow = NUM -> list
-BRow = . -> none
-BRow = BRow ␣NUM -> add
+  | . -> list
+  | BRow ␣NUM -> add
+Slashes = BRow / BRow -> list
+  | Slashes / BRow -> add
+OneRow = NUM -> list
+  | Square -> 1
+  | Blanks -> 1
 Tableau "a tableau" = [ TRows ] -> 2
-Tableau = ( TRows ) -> 2
-Tableau = young ( YRows ) -> 3                                  # \young(13,2)
-Tableau = young { YRows } -> 3
-Tableau = ytableau ARows ytableau -> 2
-Tableau = tableau { TRows } -> 3
-Tableau = tableau ( [ TRows ] ) -> 4                            # Sage
-Tableau = Slashes -> 1
-Tableau = Square -> list
-Tableau = Blanks -> list
-Tableau = NUM -> listOfOne
-Tableau = . -> none
-SkewRow = [ Nones ] -> skewRow
-SkewRow = [ Nones , Commas ] -> skewRow
-SkewRow = [ Nones , NUM ] -> skewRowOne
-SkewRow = TRow -> fullRow
-Nones = none -> count
-Nones = Nones , none -> countMore
+  | ( TRows ) -> 2
+  | young ( YRows ) -> 3  # \young(13,2)
+  | young { YRows } -> 3
+  | ytableau ARows ytableau -> 2
+  | tableau { TRows } -> 3
+  | tableau ( [ TRows ] ) -> 4  # Sage
+  | Slashes -> 1
+  | [ Slashes ] -> 2
+  | OneRow -> list
+  | . -> list
+Gap = none|. -> word .
+SCell = Gap -> 1
+  | NUM -> 1
+SCommas = SCell -> list
+  | SCommas , SCell -> add
+SBlanks = SCell -> list
+  | SBlanks ␣SCell -> add
+SkewRow = [ SCommas ] -> 2
+  | ( SCommas ) -> 2
+  | ( SBlanks ) -> 2
+  | [ ] -> list
 SkewRows = SkewRow -> list
-SkewRows = SkewRows , SkewRow -> add
-SkewTableau "a skew tableau" = [ SkewRows ] -> 2                # [[None,1],[1,2]], Sage
-SkewTableau = skewtableau ( [ SkewRows ] ) -> 4
-Question = RectName of? SkewTableau -> rectOfSkew
-RectName = rectification|rectify|rect|jdt -> ""
-RectName = jeu de taquin -> ""
+  | SkewRows ,? SkewRow -> add
+SSlashes = SBlanks / SBlanks -> list
+  | SSlashes / SBlanks -> add
+SkewTableau "a skew tableau" = [ SkewRows ] -> 2  # [[None,1],[1,2]], Sage
+  | skewtableau ( [ SkewRows ] ) -> 4
+  | SSlashes -> 1
+  | with rows SkewRows -> 3
+RectName = rectification|rectify|rect|jdt of|on? -> ""
+  | jeu de taquin of|on? -> ""
+Question = RectName skew? tableau? SkewTableau -> rectOfSkew
+  | SkewTableau . rectify ( ) -> rectOfSkew
+  | rectification of Tableau of|, shape? Skew -> rect 6 3
+  | word with P = Tableau ,? and Q = Tableau -> unrsk
+  | which? permutation|word has|with P = Tableau ,? and Q = Tableau under? rsk? -> unrsk 6 11
+  | rsk ~^ ~{ - NUM } ( Tableau , Tableau ) -> unrsk 8 10
+  | rsk_inverse ( Tableau , Tableau ) -> unrsk  # Sage
+  | inverse rsk of? Tableau and|, Tableau -> unrsk
 Command = unrsk Tableau -|,|and? Tableau -> unrsk
-Command = unrsk ( Tableau , Tableau ) -> unrsk
-Question = word with P = Tableau ,? and Q = Tableau -> unrsk 5 10
-Question = rsk_inverse ( Tableau , Tableau ) -> unrsk           # Sage
-Question = inverse rsk of? Tableau and|, Tableau -> unrsk
-Command = rect Shape - Tableau -> rect
-Command = rect ( Lam , Lam , Tableau ) -> rectCall
-Question = rectification of Tableau of|, shape? Skew -> rect 6 3
-Command = tab|lrtab Shape -> tab
-Command = tab Shape -from Tableau -> tabFrom
+  | unrsk ( Tableau , Tableau ) -> unrsk
+  | rect Shape - Tableau -> rect
+  | rect ( Lams , Tableau ) -> rect
+  | tab|lrtab Shape -> tab
+  | tab Shape -from Tableau -> tabFrom
 LrTableaux = LR tableaux -> ""
-LrTableaux = littlewood - richardson tableaux -> ""
-Question = all? LrTableaux of? shape? Skew -> tab
-Question = all? LrTableaux of? shape? Skew , after Tableau -> tabFrom
-Question = number of LrTableaux of? shape? Skew -> tabNumber
-Question = number of LrTableaux of? shape? Skew and|with? content|weight|type Arg -> tabContent
-Command = expand Opt? Basis ␣Sum Opt? -> expandWith             # (expand s2 has no basis)
-Command = expand ( Opt? Basis , Sum ) -> expandWith
-Command = plethysm Basis ␣Sum ␣Sum -> plethysmOf
-Command = plethysm Basis ␣Plethysm -> plethysm 3 2
-Command = plethysm ( Basis , Sum , Sum ) -> plethysmOf
-Command = plethysm ( Sum , Sum ) -> ! plethysmOf s 3 5
-Command = plethysm Sum ␣Sum -> ! plethysmOf s 2 3
-Command = work ( NUM , NUM ) -> work
-Question = totals of NUM generated commands|command , from seed NUM -> work
-Question = answers to lines of input , of which there are none here -> batch
-LrCalc = lrcalc Command -> lrcalc                               # lrcalc mult -r2 2 1 - 2 1
-LrCalc = lrcalc . Command -> lrcalc
-LrCalc = lrcalc mult - ~q NUM , NUM Factors -> quantum
-LrCalc = lrcalc mult - ~f NUM , NUM Factors -> fusion
-LrCalc = lrcalc coprod - ~a One -> ofPartition coprod
-
-# ---------------------------------------------------------------- known, and not computed here
-Rest = ANY -> ""
-Rest = Rest ANY -> ""
-Unknown = kronecker Rest -> unknown kronecker
-Unknown = internal product Rest -> unknown kronecker
-Unknown = s Index hash s Index -> unknown kronecker
-Unknown = g Rest -> unknown kronecker
-Unknown = ω Rest -> unknown omega
-Unknown = omega Rest -> unknown omega
-Unknown = < Sum , Sum > -> unknown inner
-Unknown = scalar|inner|hall product of Sum and Sum -> unknown inner
-Unknown = Tensor -> unknown tensor
-Unknown = Slashed Rest -> unknown skew
-Unknown = P|Q Index -> unknown hall
-Unknown = P|Q Index ( x ; t ) -> unknown hall
-Unknown = P|Q Index Rest -> unknown hall
-Unknown = hall - littlewood Rest -> unknown hall
-Unknown = macdonald|jack Rest -> unknown hall
-Unknown = H|J ~_ Rest -> unknown hall
-Unknown = grothendieck Rest -> unknown grothendieck
-Unknown = G ~_ Rest -> unknown grothendieck
-Unknown = jdt|rectify|rectification Rest -> unknown jdt
-Unknown = jeu de taquin Rest -> unknown jdt
-Unknown = promotion|evacuation Rest -> unknown promotion
-Unknown = evacuation|promotion -> unknown promotion
-Unknown = character table Rest -> unknown table
-Unknown = kostka matrix|table Rest? -> unknown table
-Unknown = s Index ~( Letters ) -> unknown variables
-Question = conjugate|transpose of? Arg -> ! transpose           # transpose 3 1
+  | littlewood - richardson tableaux -> ""
+Question = all? LrTableaux OfShape? Skew -> tab
+  | all? LrTableaux OfShape? Skew , after Tableau -> tabFrom
+  | Count LrTableaux OfShape? Skew -> tabNumber
+  | Count LrTableaux OfShape? Skew OfContent Arg -> tabContent
+Command = expand Opt? Basis ␣Sum Opt? -> expandWith  # (expand s2 has no basis)
+  | expand ( Opt? Basis , Sum ) -> expandWith
+  | plethysm Basis ␣Operands -> plethysm
+  | plethysm Basis ␣Plethysm -> plethysm
+  | plethysm ( Basis , Arguments ) -> plethysm
+  | plethysm ( Arguments ) -> ! plethysm s
+  | plethysm Operands -> ! plethysm s
+  | work ( NUM , NUM ) -> reading work
+Operands = Sum ␣Sum -> composed
+Arguments = Sum , Sum -> composed
+  | OfLam , OfLam -> composed
+Question = totals of NUM generated commands|command , from seed NUM -> reading work
+  | answers to lines of input , of which there are none here -> reading batch
+LrCalc = lrcalc Command -> lrcalc  # lrcalc mult -r2 2 1 - 2 1
+  | lrcalc . Command -> lrcalc
+  | lrcalc mult - ~q QBox Factors -> productIn 6 5
+  | lrcalc mult - ~f NUM , NUM Factors -> fusion
+  | lrcalc coprod - ~a One -> coproduct
+  | lrcalc . mult_quantum ( Call2 , QBox ) -> classesIn
+  | lrcalc . mult_fusion ( Call2 , NUM , NUM ) -> fusionFor
+Typed = Square -> typedWith index
+QBox = Box -> space quantum
+Call2 = Typed , Typed -> list
+Question = OfConjugate -> ! expand s  # the Schur function of the conjugate
+OfConjugate = Conjugate -> atom s
+Conjugate = conjugate|transpose of? Arg -> conjugate
+  | partition ( Square ) . conjugate ( ) -> conjugate
+  | List ~Prime -> conjugate
 
 Line = LrCalc -> 1
-Line = Command -> 1
-Line = Question -> 1
-Line = Ask Question -> 2
-Ask = compute|calculate|evaluate|find|decompose -> ""
-Ask = what is -> ""
-Line = Line , on one line -> onOneLine
-Line = Unknown -> ! 1
+  | Command -> 1
+  | Asked -> 1
+  | Line , on one line -> onOneLine
+Asked = Question -> 1
+  | Ask Asked -> 2
+Ask = compute|calculate|evaluate|find|decompose|draw|show|list|give|apply|do|class -> ""
+  | what is|are? -> ""
+  | pieri|murnaghan -? nakayama? rule? for? of? -> ""
+  | how do|can I|we -> ""
+  | quantum? pieri|product|plethysm|coproduct ~: -> ""
 `;

@@ -16,78 +16,84 @@ function inSight(text) {
   return text.replace(ALL_UNSEEN, (c) => `⟨U+${c.codePointAt(0).toString(16).toUpperCase().padStart(4, "0")}⟩`);
 }
 
-/** Characters that mean the same as a sign of the notations. */
-const SAME = new Map(
-  [["-", "−‐‑‒–—﹣－"], ["*", "·×⋅•"], ["/", "⁄∕"], ["∖", "⧵\\"], ["<", "⟨〈"], [">", "⟩〉"], ["to", "→"], ["in", "∈"], ["hash", "#"]].flatMap(([sign, all]) => [...all].map((it) => [it, sign])),
-);
-/** What a command of LaTeX, or the name of a Greek letter, is: a sign, a blank, or nothing. */
-const LATEX = new Map(
-  Object.entries({
-    ...{ sigma: "σ", chi: "χ", omega: "ω", Delta: "Δ", mu: "μ", nu: "ν", lambda: "λ", cdot: "*", times: "*", ast: "∗", in: "in", cup: "∪", otimes: "⊗", circ: "∘" },
-    ...{ emptyset: "∅", varnothing: "∅", setminus: "∖", backslash: "∖", langle: "<", rangle: ">", prime: "'", to: "to", rightarrow: "to", top: "T" },
-    ...{ frac: "frac", tfrac: "frac", dfrac: "frac", young: "young", yng: "yng", ydiagram: "ydiagram", tableau: "tableau", colon: ":", deg: "degree", dim: "dim" },
-    ...{ quad: " ", qquad: " ", left: "", right: "", big: "", Big: "", bigl: "", bigr: "", displaystyle: "", limits: "" },
-  }),
-);
-/** Words that are a sign, and words that say nothing. */
-const WORD_SIGNS = new Map(Object.entries({ sigma: "σ", chi: "χ", omega: "ω", times: "*", the: "", function: "functions" }));
-const RAISED = "⁰¹²³⁴⁵⁶⁷⁸⁹";
-const LOWERED = "₀₁₂₃₄₅₆₇₈₉";
-const digitsFrom = (text, digits) => [...text].map((c) => digits.indexOf(c)).join("");
-
 /** The kinds of pieces of a text, each in a group of its own, the first that fits. */
 const PIECES = [
   "[ \\t\\u00a0\\u1680\\u2000-\\u200a\\u202f\\u205f\\u3000~]+|\\\\[,;:! ]",
   "\\d+",
-  "\\\\(?:mathfrak|mathcal|mathscr|mathbf|mathrm|mathbb|operatorname|text|textrm)\\s?\\{[A-Za-z]+\\}|\\\\math(?:frak|bb)\\s?[A-Z]",
-  "\\\\(?:begin|end)\\{ytableau\\}",
-  "\\\\\\\\",
-  "\\\\[A-Za-z]+",
+  "\\\\(?:mathfrak|frak|mathcal|mathscr|mathbf|mathrm|mathbb|operatorname|text|textrm)\\s?\\{[A-Za-z ]+\\}|\\\\(?:math(?:frak|bb|cal)|frak)\\s?[A-Z]",
   "[A-Za-z]+(?:_[A-Za-z]{2,})*",
-  "\\*\\*",
   "-(?:from|[rm])(?![A-Za-z])(?=[ \\t\\d]|$)",
-  `[${RAISED}]+`,
-  `[${LOWERED}]+`,
-  "->",
-  ".",
+  "[⁰¹²³⁴-⁹]+",
+  "[₀-₉]+",
+  "\\\\(?:begin|end)\\{ytableau\\}|\\\\\\\\|\\\\[A-Za-z]+|\\*\\*|->|(?<=[A-Za-z])'s(?![A-Za-z_({[\\d])|.",
 ];
 const PIECE = new RegExp(PIECES.map((it) => `(${it})`).join("|"), "gsu");
 
-/** The signs of a text, in turn: `{kind, value, at, end, gap}`, of which `kind` is the sign in the notations and `gap` a blank before it. `words` are the words that are known. */
-function signsOf(text, words) {
+/** The signs of a text, in turn: `{kind, value, at, end, gap}`, of which `kind` is the sign in the notations and `gap` a blank before it. `words` are
+ * the words that are known, and `same` has the signs that other texts stand for. */
+function signsOf(text, { words, same }) {
   const signs = [];
   let gap = false;
   const put = (kind, at, end, value = kind) => {
-    if (kind === " ") return void (gap = true);
-    if (kind !== "") signs.push({ kind, value, at, end, gap: gap && signs.length > 0 }), (gap = false);
+    if (kind === "blank") return void (gap = true);
+    if (kind === "nothing") return;
+    const isNumber = /^\d+$/.test(kind);
+    signs.push({ kind: isNumber ? "NUM" : kind, value: isNumber ? kind : value, at, end, gap: gap && signs.length > 0 && !"_^".includes(signs[signs.length - 1].kind) });
+    gap = false;
   };
   const putWord = (word, at) => {
-    const end = at + word.length, small = word.toLowerCase(), [before, after] = [text[at - 1] ?? "", text[end] ?? ""];
-    if (WORD_SIGNS.has(small) && word.length > 2) return put(WORD_SIGNS.get(small), at, end);
-    if (word === "x" && before === " " && after === " ") return put("*", at, end);
+    const end = at + word.length, small = word.toLowerCase(), isApart = text[at - 1] === " " && text[end] === " ";
+    if (word === "x" && isApart) return put("*", at, end);
+    if (word === "a" && isApart && /^ (?:[A-Za-z]{2}|\d)/.test(text.slice(end, end + 3))) return;
     if (words.has(word) || word.length === 1) return put(word, at, end);
-    if (word.length > 2) return put(words.has(small) ? small : `?${word}`, at, end, word);
+    if (same.has(word) || same.has(small)) return put(same.get(word) ?? same.get(small), at, end);
+    if (word.length > 2) return put(words.has(small) ? small : `?${word}`, at, end);
     for (const [i, c] of [...word].entries()) put(c, at + i, at + i + 1);
   };
   const by = [
     () => void (gap = true),
     (piece, at, end) => put("NUM", at, end, piece),
     (piece, at, end) => {
-      const name = /([A-Za-z]+)\}?$/.exec(piece)[1], isSchubert = name === "S" && /frak|cal|scr/.test(piece);
-      if (name === "G" && /bb/.test(piece)) return put("𝔾", at, end);
-      return isSchubert ? put("𝔖", at, end) : words.has(name) ? put(name, at, end) : putWord(name, end - name.length - 1);
+      const [, inside, letter] = /\{([A-Za-z ]+)\}$|([A-Z])$/.exec(piece), name = inside ?? letter, framed = same.get(piece.replace(/.*?(frak|bb|cal|scr).*/, `$1${name}`));
+      if (framed && /^\\(?:math|frak)/.test(piece)) return put(framed, at, end);
+      for (const found of name.matchAll(/[A-Za-z]+| /g)) found[0] === " " ? (gap = true) : putWord(found[0], end - name.length - (inside ? 1 : 0) + found.index);
     },
-    (piece, at, end) => put("ytableau", at, end),
-    (piece, at, end) => put("\\\\", at, end),
-    (piece, at, end) => put(LATEX.get(piece.slice(1)) ?? `?${piece}`, at, end, piece),
     putWord,
-    (piece, at, end) => put("**", at, end),
     (piece, at, end) => (gap || signs.length === 0 ? put(piece, at, end) : (put("-", at, at + 1), putWord(piece.slice(1), at + 1))),
-    (piece, at, end) => put("sup", at, end, digitsFrom(piece, RAISED)),
-    (piece, at, end) => [["_"], ["{"], ["NUM", digitsFrom(piece, LOWERED)], ["}"]].forEach(([kind, value]) => put(kind, at, end, value)),
-    (piece, at, end) => put("to", at, end),
-    (piece, at, end) => put(SAME.get(piece) ?? piece, at, end),
+    (piece, at, end) => put("sup", at, end, piece.normalize("NFKC")),
+    (piece, at, end) => [["_"], ["{"], ["NUM", piece.normalize("NFKC")], ["}"]].forEach(([kind, value]) => put(kind, at, end, value)),
+    (piece, at, end) => {
+      const name = /^\\[A-Za-z]+$/.test(piece) ? piece.slice(1) : "";
+      put(same.get(piece) ?? (name === "" ? piece : same.get(name) ?? (words.has(name) ? name : `?${piece}`)), at, end);
+    },
   ];
   for (const found of text.matchAll(PIECE)) by[found.findIndex((it, i) => i > 0 && it !== undefined) - 1](found[0], found.index, found.index + found[0].length);
   return signs;
+}
+
+/** Letters that stand for a list, a permutation or a tableau, and for a number, if their value is given; and the signs of a value. */
+const LIST_LETTERS = /^[λμνρκαβγuvwabPQTU]$/u;
+const NUMBER_LETTERS = /^[knNd]$/;
+const OF_VALUES = ["NUM", "(", ")", "[", "]", "{", "}", ",", ".", "/", "∖", "^", "∅"];
+
+/** The signs with the value for each letter of which one is given beside them, as in s_λ s_μ for λ = (3,1), μ = 21; in brackets, if it is a list without. */
+function withValues(signs) {
+  const kindAt = (at) => signs[at]?.kind, isGiven = (at) => kindAt(at + 1) === "=" && (LIST_LETTERS.test(kindAt(at)) || NUMBER_LETTERS.test(kindAt(at))), values = new Map();
+  let front = signs.findIndex((_, at) => isGiven(at)), at = front, begin, end;
+  // (a command has the numbers of the program; numbers beside each other could be a product)
+  const isNumber = (it) => it.kind === "NUM" || NUMBER_LETTERS.test(it.kind), isBeside = (it, i) => i > 0 && !it.gap && isNumber(it) && isNumber(signs[i - 1]);
+  if (["quantum", "fusion"].includes(kindAt(0)) || signs.some(isBeside)) return signs;
+  while (at >= 0 && isGiven(at)) {
+    for (begin = at + 2; isGiven(begin); ) begin += 2;
+    for (end = begin; OF_VALUES.includes(kindAt(end)); ) end += 1;
+    while (end > begin && kindAt(end - 1) === ",") end -= 1;
+    const value = signs.slice(begin, end), isBare = NUMBER_LETTERS.test(kindAt(at)) || (["(", "[", "{"].includes(kindAt(begin)) && [")", "]", "}"].includes(kindAt(end - 1)));
+    if (end === begin) return signs;
+    for (; at < begin; at += 2) values.set(kindAt(at), isBare ? value : [{ kind: "[" }, ...value, { kind: "]" }]);
+    for (at = end; [",", ";", ":", "and"].includes(kindAt(at)); ) at += 1;
+  }
+  while (["for", "with", "where", "when", "if", "let", "and", ",", ";", ":"].includes(kindAt(front - 1))) front -= 1;
+  const others = [...signs.slice(0, Math.max(front, 0)), ...signs.slice(at)], isUsed = values.size > 0 && [...values.keys()].every((name) => others.some((it) => it.kind === name));
+  const put = (it) => (values.get(it.kind) || [it]).map((sign, i) => ({ ...sign, at: it.at, end: it.end, gap: i === 0 ? it.gap : sign.gap }));
+  return isUsed ? others.flatMap(put) : signs;
 }

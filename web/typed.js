@@ -17,7 +17,8 @@ const LINE_ENDS = /[\n\r\v\f\u0085\u2028\u2029]+/;
 const LEFT_OUT = [
   ["characters that are not seen", ALL_UNSEEN],
   ["the prompt", /^\s*(?:\$|sage:|>>>|In \[\d+\]:|i\d+ :)(?=[ \t])/],
-  ["the comment", /(?:^|[ \t])#.*$/],
+  ["the comment", COMMENT],
+  ["the declaration", /^\s*(?:(?:import [\w.]+(?: as \w+)?|from [\w.]+ import [\w*]+|Sym *= *SymmetricFunctions\([A-Z]+\)|X *= *SchubertPolynomialRing\([A-Z]+\)|([mehps]) *= *(?:SymmetricFunctions\([A-Z]+\)|Sym)\.\1\(\)) *; *)+/],
   ["the name of the program", /^\s*(?:\S{0,200}\/)?calc(?:-static|-glibc)?(?=[ \t]|$)/],
   ["the quotes", /^\s*(?:"([^"]*)"|'([^']*)'|“([^“”]*)”)\s*$/],
   ["the quotes", /(?<=^|[ \t])["'“]((?! )[^"'“”]*[^"'“” ])["'”](?=[ \t]|$)/g],
@@ -35,7 +36,7 @@ function plainLine(typed) {
     if (what === "the quotes" && QUOTED_APART.test(line)) continue;
     const isList = (inner) => /^\d+(?:[ ,]+\d+)+$/.test(inner) && what === "the quotes";
     const left = line.replace(form, (all, ...groups) => {
-      const inner = groups.find((it) => typeof it === "string" && it !== line) ?? "";
+      const inner = what === "the declaration" ? "" : groups.find((it) => typeof it === "string" && it !== line) ?? "";
       return isList(inner) && all !== line.trim() ? `[${inner}]` : inner;
     });
     if (left.trim() !== line && !changes.includes(what)) changes.push(what);
@@ -47,37 +48,28 @@ function plainLine(typed) {
 /** A reading by its line and what is asked for of its answer. */
 const keyOf = (it) => `${it.line}|${it.asked ? JSON.stringify(it.asked) : ""}`;
 
-/** Whether the degree of an expression is one that the program takes. */
-function isInDegree(words) {
-  const [name, ...rest] = words.filter((it) => it !== "-m");
-  return name !== "expand" || degreeOf(rest[1]) <= degreeAllowed(rest[0]);
-}
-
 /** Readings in the order in which they are offered, each once: digits apart before numbers of several digits, those that are 0 by size last. */
 function offered(readings) {
-  const isKnown = (it) => it.line && isSound(textsOfWords(it.line)) && isInDegree(textsOfWords(it.line)), rank = (it) => (it.zero ? 8 : 0) + (it.digits === 2 ? 4 : it.isDoubtful ? 2 : 0) + (it.line.startsWith("expand") && !it.asked ? 1 : 0);
+  const isKnown = (it) => it.line && isSound(textsOfWords(it.line)), rank = (it) => (it.zero ? 8 : 0) + (it.digits === 2 ? 4 : it.isDoubtful ? 2 : 0) + (it.line.startsWith("expand") && !it.asked ? 1 : 0);
   const found = new Map(readings.filter(isKnown).sort((a, b) => rank(a) - rank(b)).map((it) => [keyOf(it), it]));
   return [...found.values()].slice(0, MOST_OFFERED);
 }
 
 /** All readings of a line by the notations: those that count, those with something changed, whether something was cut short, and where the line stops. */
 function readingsOf(line) {
-  const signs = signsOf(line, notation().words);
-  cutShort.is = false;
-  cutShort.why = "";
+  const signs = withValues(signsOf(line, notation()));
+  Object.assign(cutShort, { is: false, why: "" });
   const { values, isMany, isWhole, far, tried } = parsed(notation(), "Line", signs);
   const readings = values.map(({ value, digits, isRepair, isDoubt }) => ({ ...value, digits, isRepair, isDoubtful: isDoubt || digits === 2 || Boolean(value.isDoubtful) }));
-  const known = readings.filter((it) => !it.unknown), sure = known.filter((it) => !it.isRepair), keys = new Set(sure.map(keyOf));
-  const unknown = (readings.find((it) => it.unknown) || {}).unknown;
-  const stop = values.length > 0 || signs.length === 0 ? null : { isWhole, sign: signs[far], front: line.slice(0, signs[far - 1] ? signs[far - 1].end : 0), expected: isWhole ? [] : expectedAt(tried()) };
-  return { sure, repairs: known.filter((it) => it.isRepair && !keys.has(keyOf(it))), unknown, isCut: isMany || cutShort.is, why: cutShort.why, stop, words: keys.size };
+  const sure = readings.filter((it) => !it.isRepair), keys = new Set(sure.map(keyOf));
+  const stop = values.length > 0 || signs.length === 0 ? null : { isWhole, sign: signs[far], front: line.slice(0, signs[far - 1] ? signs[far - 1].end : 0), expected: isWhole ? [] : expectedAt(tried) };
+  return { sure, repairs: readings.filter((it) => it.isRepair && !keys.has(keyOf(it))), isCut: isMany || cutShort.is, why: cutShort.why, stop };
 }
 
 /** What can come at a place, as the page calls it. */
 function expectedAt(states) {
-  const signName = (sign) => SENTENCES["next sign"][sign] ?? (/^[A-Za-z]{2,}$/.test(sign) ? "" : sign);
-  const nameOf = ({ name, rule }) => notation().labels.get(name) || (rule >= 0 ? "" : signName(name.split("|")[0]));
-  return [...new Set(states.map(nameOf))].filter(Boolean).slice(0, 6);
+  const nameOf = (name, sign, rule) => notation().labels.get(name) ?? SENTENCES["next sign"][sign] ?? (rule >= 0 || /^[A-Za-z]{2}/.test(sign) ? "" : sign);
+  return [...new Set(states.map((it) => nameOf(it.name, it.name.split("|")[0], it.rule)))].filter(Boolean).slice(0, 6);
 }
 
 /** Readings of a line with the name of its command put right. */
@@ -100,14 +92,14 @@ function readTyped(typed) {
   if (!isHidden && (line === "" || isCommand(textsOfWords(line)))) return { line, changes };
   if (line.length > LONGEST) return GRAMMAR.has(textsOfWords(line)[0]) ? { line, changes, unread: { offers: [] } } : unread(line, changes, sentence("long line", { most: LONGEST.toLocaleString("en") }));
   if (isHidden) return unread(asTyped, [], sentence("hidden"), offered(hiddenReadings(asTyped, line)));
-  const { sure, repairs, unknown, isCut, why, stop } = readingsOf(line), [first] = sure;
+  const { sure, repairs, isCut, why, stop } = readingsOf(line), [first] = sure;
   // (a formula as the page writes it runs, though it is 0 by its sizes)
   const isWritten = (it) => [typedOf(it), computedBy(it.line, it.asked), plainFormula(computedBy(it.line, it.asked))].includes(line);
   const isSure = (it) => !it.isDoubtful && (!it.zero || isWritten(it));
   if (new Set(sure.map(keyOf)).size === 1 && !isCut && sure.every(isSure)) return { line: first.line, changes, asked: first.asked };
   if (sure.length > 0) return severalRead(line, changes, offered([...sure, ...(sure.every((it) => it.zero) ? repairs : [])]), isCut);
   if (isCut) return unread(line, changes, why || sentence("beyond"));
-  return notRead(line, changes, { offers: offered(repairs.length > 0 ? repairs : withOtherName(line)), unknown, stop });
+  return notRead(line, changes, { offers: offered(repairs.length > 0 ? repairs : withOtherName(line)), stop });
 }
 
 /** A line that the page does not run: what it says of it, what it offers, and which part it marks. */
@@ -123,22 +115,16 @@ function severalRead(line, changes, offers, isCut) {
 }
 
 /** A line without a reading: named as what it is, refused by the program if it begins with one of its commands or with no known sign, or with where it stops. */
-function notRead(line, changes, { offers, unknown, stop }) {
-  if (unknown) return unread(line, changes, SENTENCES.unknown[unknown], offers);
-  const [first = ""] = textsOfWords(line);
-  if (GRAMMAR.has(first) || !stop || stop.front.trim() === "") return { line, changes, unread: { offers } };
+function notRead(line, changes, { offers, stop }) {
+  const [first = ""] = textsOfWords(line), small = line.slice(0, 400).replace(/[A-Za-z]{3,}/g, (it) => it.toLowerCase()), isOwn = GRAMMAR.has(first);
+  const unknown = isOwn ? null : Object.values(SENTENCES.unknown).find(([form]) => new RegExp(form, "u").test(small));
+  if (unknown) return unread(line, changes, unknown[1], offers);
+  if (isOwn || !stop || stop.front.trim() === "") return { line, changes, unread: { offers } };
   if (stop.isWhole) return unread(line, changes, sentence("senseless"), offers);
-  const front = stop.front.length > 36 ? `..${stop.front.slice(-34)}` : stop.front, expected = oneOf(stop.expected), name = expected ? (stop.sign ? "stops" : "is short") : stop.sign ? "stops there" : "is short there";
-  const word = stop.sign ? line.slice(stop.sign.at, stop.sign.end) : "", near = nearWord(word);
-  const said = sentence(name, { front, word: named(word), expected }) + (near ? ` ${sentence("near", { near })}` : "");
+  const front = stop.front.length > 36 ? `..${stop.front.slice(-34)}` : stop.front, expected = oneOf(stop.expected), word = stop.sign ? line.slice(stop.sign.at, stop.sign.end) : "";
+  const near = !/^[A-Za-z]{4,20}$/.test(word) ? undefined : [...notation().words].find((it) => it !== word && distance(word.toLowerCase(), it) <= it.length / 4);
+  const said = sentence(`${stop.sign ? "stops" : "is short"}${expected ? "" : " there"}`, { front, word: named(word), expected }) + (near ? ` ${sentence("near", { near })}` : "");
   return unread(line, changes, said, offers, stop.sign ? { at: stop.sign.at, length: word.length } : { at: line.length, length: 0 });
-}
-
-/** The word of the notations that a word is nearly. */
-function nearWord(word) {
-  if (!/^[A-Za-z]{4,20}$/.test(word)) return "";
-  const [near] = [...notation().words].map((it) => [distance(word.toLowerCase(), it.toLowerCase()), it]).filter(([far, it]) => far > 0 && far <= it.length / 4).sort((a, b) => a[0] - b[0]);
-  return near ? near[1] : "";
 }
 
 /** What a line can be seen as that has characters which are not seen: without them, and with a blank or a hyphen for each. */
@@ -158,6 +144,6 @@ function helpAsked(line) {
 
 /** The numbers of a text that is one list, with blanks between; the text as it is, if it is none or has several readings. */
 function listRead(text, rule) {
-  const { values, isMany } = text.length > LONGEST ? { values: [] } : parsed(notation(), rule, signsOf(text, notation().words)), [first] = values;
+  const { values, isMany } = text.length > LONGEST ? { values: [] } : parsed(notation(), rule, signsOf(text, notation())), [first] = values;
   return values.length === 1 && !isMany && first.digits === 0 && !first.isRepair && !first.isDoubt ? first.value.join(" ") : text;
 }
