@@ -12,9 +12,8 @@ from typing import Any, Callable, Deque, Dict, Iterable, Iterator, List, NamedTu
 from ._answers import answer_of
 from ._arguments import text_of
 from ._parents import home_of
-from ._program import spawn
 from ._refusals import Refusal
-from ._ways import NO_COMMAND, Ended, NoCalculator, Way, sent
+from ._ways import NO_COMMAND, Ended, NoCalculator, Way, sent, spawn
 
 # A window of lines is to take about this long, in seconds. One that takes longer than LATE is given up, and its lines are done one by one: there are
 # heavy ones among them, which other processes can do. (On a busy machine all take longer, so that the next one has more time.)

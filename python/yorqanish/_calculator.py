@@ -19,7 +19,7 @@ from ._sage import basis_of
 from ._search import way
 from ._tableaux import Pair, Tableau, pair_of, tableau_of
 from ._tasks import Task
-from ._ways import LONGEST, NO_COMMAND, Way, sent
+from ._ways import NO_COMMAND, Way, sent
 
 Words = Union[str, SupportsIndex, Shape]
 Seconds = Optional[SupportsFloat]
@@ -110,7 +110,7 @@ class Calculator:
         """The text of a line. What is refused is raised."""
         seconds = self._seconds if timeout is None else self._limit(timeout)
         try:
-            text = self._way.answer(sent(line) or NO_COMMAND, seconds)
+            (text,) = self._way.blocks([sent(line) or NO_COMMAND], seconds)
         except TimeoutError:
             raise _batch.late(line, seconds) from None
         if text.startswith("! "):
@@ -121,7 +121,7 @@ class Calculator:
         """The texts of lines, all of them within this time. What is refused is raised."""
         seconds, datas = self._limit(timeout), [sent(it) or NO_COMMAND for it in lines]
         until = None if seconds is None else time.monotonic() + seconds
-        if len(lines) == 1 or any(len(it) > LONGEST for it in datas):
+        if len(lines) == 1:
             return [self._text(it, None if until is None else max(0.0, until - time.monotonic())) for it in lines]
         try:
             texts = self._way.blocks(datas, seconds) if datas else []

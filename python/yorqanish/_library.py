@@ -2,8 +2,9 @@
 from __future__ import annotations
 
 import _thread
-import copy
 import ctypes
+import sys
+from functools import lru_cache
 from queue import Empty, SimpleQueue
 from typing import Iterator, List, Optional, Sequence, Tuple
 
@@ -39,9 +40,7 @@ class Library(Way):
         size = ctypes.c_size_t
         self._run.argtypes = [ctypes.c_char_p, size, ctypes.c_char_p, size, ctypes.c_void_p, size, ctypes.c_void_p]
         self._run.restype = ctypes.c_uint8
-        # The buffers that no call has (a list's `append` and `pop` are not interrupted).
-        self._free: List[Buffer] = []
-        self._lister: Optional[Way] = None
+        self._idle = []
         # (another library of this name, which may hang, or another version, is found out in a thread of its own)
         got: SimpleQueue[Tuple[int, bytes]] = SimpleQueue()
         _thread.start_new_thread(lambda: got.put(self.run(b"batch", b"\n".join((*QUESTIONS, b"")))), ())
@@ -56,7 +55,7 @@ class Library(Way):
         """The status of the line's command, and its text. The text is asked for once more if it is longer than the buffer."""
         self.check()
         try:
-            buffer = self._free.pop()
+            buffer: Buffer = self._idle.pop()
         except IndexError:
             buffer = Buffer(ROOM)
         while True:
@@ -66,36 +65,27 @@ class Library(Way):
             buffer = Buffer(length)
         text = buffer.bytes[:length].tobytes()
         if buffer.room <= MOST_KEPT:
-            self._free.append(buffer)
+            self._idle.append(buffer)
         return status, text
 
-    def _alone(self, line: bytes, seconds: Optional[float], given: bytes = b"") -> str:
-        status, text = self.run(line, given)
+    def blocks(self, lines: Sequence[bytes], seconds: Optional[float]) -> List[str]:
+        status, text = self.run(b"batch", b"\n".join((*lines, b"")))
         if status in (NO_TEXT, NO_MEMORY):
             raise no_memory()
-        return text.decode("ascii")
-
-    def blocks(self, lines: Sequence[bytes], seconds: Optional[float]) -> List[str]:
-        texts = self._alone(b"batch", None, b"\n".join((*lines, b""))).split("--\n")
+        texts = text.decode("ascii").split("--\n")
         if len(texts) != len(lines):
             raise not_calc(self.path)
         return texts
 
     def listed(self, line: bytes, seconds: Optional[float]) -> Iterator[str]:
-        """The program lists one line after another; the library would list them all first."""
-        from ._search import program
-
+        """The program lists one line after another; the library lists them all first, which is all there is on Windows."""
         self.check()
-        if self._lister is None:
-            self._lister = program(None)
-        return self._lister.listed(line, seconds)
+        return iter(self.blocks([line], seconds)[0].splitlines()) if sys.platform == "win32" else lister().listed(line, seconds)
 
-    def apart(self, shares: bool) -> Way:
-        other = copy.copy(self)
-        other._whole, other._lister = self, None
-        return other
 
-    def close(self) -> None:
-        self._is_closed = True
-        if self._lister:
-            self._lister.close()
+@lru_cache(None)
+def lister() -> Way:
+    """The program beside the library."""
+    from ._search import program
+
+    return program(None)

@@ -2,19 +2,11 @@
 from __future__ import annotations
 
 import os
-import sys
 import threading
 from concurrent.futures import Future
-from typing import TYPE_CHECKING, Any, Callable, Dict, Generator, Generic, Optional, TypeVar
+from typing import Any, Callable, Dict, Generator, Generic, Optional, TypeVar
 
-if TYPE_CHECKING or sys.platform != "win32":
-    from ._program import spawn
-else:
-
-    def spawn(task: Callable[..., None], *arguments: Any) -> None:
-        """A thread of this package, without which Python ends."""
-        threading.Thread(target=task, args=arguments, daemon=True).start()
-
+from ._ways import spawn
 
 Result = TypeVar("Result")
 # So many of them run at a time in a process. (A fork may copy what is taken, which is another process's then.)

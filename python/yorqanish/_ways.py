@@ -1,12 +1,14 @@
 """The two ways to the calculator: the program in processes of its own, and the C library."""
 from __future__ import annotations
 
+import _thread
 import copy
-from typing import Iterator, List, Optional, Sequence
+import importlib.util
+from typing import Any, Callable, Iterator, List, Optional, Sequence
 
 from ._arguments import text_of
 
-# The statuses by which a command says that memory was refused: for the text, which the library alone does, or for the answer.
+# The statuses by which a command says that memory was refused: for the text, which only the library does, or for the answer.
 NO_TEXT, NO_MEMORY = 5, 7
 
 # What each program and library is asked before anything that it says is taken for an answer of `calc`: a line of each command, and the answer
@@ -32,10 +34,8 @@ QUESTIONS = {
     b"rect 2 2 / 1 - 1 / 1 2": b"1 1 / 2\n",
     b"growth 2 1": b"() () ()\n() () (1)\n() (1) (1,1)\n",
 }
-# The line that is asked after others: where its known answer begins, theirs have ended.
-LAST, END = b"rsk", b"P .\nQ .\n"
-BREAK = b"--\n"
-ENDED = BREAK + END
+# The line that is asked after others: where its known answer begins, theirs have ended. What is between two answers.
+LAST, END, BREAK = b"rsk", b"P .\nQ .\n", b"--\n"
 
 # What is sent for a line that a batch passes over, where it is to be refused: it is refused at its beginning.
 NO_COMMAND = b"!"
@@ -54,25 +54,23 @@ class Ended(NoCalculator):
 
 
 class Way:
-    """How lines of words become the texts of their answers: `answer` gives that of one line of whatever length, `blocks` those of lines of a batch,
-    none of which it passes over, and `listed` the lines of an answer as they are listed. `close` lets go of what is held, and ends what still runs;
-    whoever asks later is refused. `apart` is the same for some of its calls, which can be closed by themselves, and may share idle processes."""
+    """How lines of words become the texts of their answers: `blocks` gives those of lines of a batch, none of which it passes over, and `listed` the lines
+    of an answer as they are listed. `close` lets go of what is held, and ends what still runs; whoever asks later is refused. `apart` is the same for
+    some of its calls, which can be closed by themselves, and may share what waits for a call."""
 
     path: str
     can_be_stopped: bool
     # What the program's file is known by.
     digest: Optional[str] = None
+    # What no call has: processes, or buffers (a list's `append` and `pop` are not interrupted).
+    _idle: List[Any]
     _is_closed = False
     # The way of which this one is a part.
     _whole: Optional[Way] = None
 
-    def answer(self, line: bytes, seconds: Optional[float]) -> str:
-        # (in a line `batch` and `work` are no commands, however long it is)
-        return self.blocks([line], seconds)[0] if len(line) <= LONGEST or is_of_batch(line) else self._alone(line, seconds)
-
     def apart(self, shares: bool) -> Way:
         other = copy.copy(self)
-        other._whole = self
+        other._whole, other._idle = self, self._idle if shares else []
         return other
 
     def is_over(self) -> bool:
@@ -88,11 +86,24 @@ class Way:
     def listed(self, line: bytes, seconds: Optional[float]) -> Iterator[str]:
         raise NotImplementedError
 
-    def _alone(self, line: bytes, seconds: Optional[float]) -> str:
-        raise NotImplementedError
-
     def close(self) -> None:
-        raise NotImplementedError
+        self._is_closed = True
+
+
+def is_subinterpreter() -> bool:
+    found = next((it for it in ("_interpreters", "_xxsubinterpreters") if importlib.util.find_spec(it)), "")
+    return bool(found) and bool(__import__(found).get_current() != __import__(found).get_main())
+
+
+IS_SUBINTERPRETER = is_subinterpreter()
+
+
+def spawn(task: Callable[..., object], *arguments: Any) -> None:
+    """A thread of this package, without which Python ends. A subinterpreter has none, since it could not be ended. (To start it is one step:
+    `threading` would wait for its begin with a lock that an interrupt can leave held.)"""
+    if IS_SUBINTERPRETER:
+        raise RuntimeError("this package starts no thread in a subinterpreter")
+    _thread.start_new_thread(task, arguments)
 
 
 def sent(line: str) -> Optional[bytes]:
@@ -121,11 +132,6 @@ def is_passed_over(data: bytes) -> bool:
     """Whether a batch gives no block for a line: it has no word, or is a comment."""
     words = data.strip(b" \t")
     return len(data) <= LONGEST and (not words or words.startswith(b"#"))
-
-
-def is_of_batch(data: bytes) -> bool:
-    """Whether a line names a command that is none in a line: `batch` and `work` read or write much that is no answer."""
-    return data.replace(b"\t", b" ").strip(b" ").split(b" ")[0] in (b"batch", b"work")
 
 
 def not_calc(path: str) -> NoCalculator:
