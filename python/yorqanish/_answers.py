@@ -1,28 +1,14 @@
-"""The printed answer of a command as a value of Python."""
+"""What is printed for lines, and the value that it is."""
 from __future__ import annotations
 
-from typing import Any, Callable, Dict, List, Tuple
+from contextlib import suppress
+from typing import Any, Callable, Dict, List, NamedTuple, Optional, Tuple
 
-from ._arguments import Numbers, without_zeros
-from ._expansion import Expansion
-from ._kinds import listed
-from ._parents import Home, parent_of
-from ._pictures import grid
-from ._reasons import words_of
-from ._tableaux import pair_of, tableau_of
-
-
-class Grid(Tuple[Tuple[Numbers, ...], ...]):
-    """A growth grid: a tuple of rows 0 to n, of which row i has the shapes at (i, 0) to (i, n)."""
-
-    __slots__ = ()
-
-    def _repr_svg_(self) -> str:
-        return grid(self).svg
-
-
-def grid_of(text: str) -> Grid:
-    return Grid(tuple(map(listed, line.split(" "))) for line in text.splitlines())
+from ._arguments import without_zeros
+from ._commands import Refusal, words_of
+from ._elements import Expansion, Home, home_of, parent_of
+from ._tableaux import grid_of, pair_of, tableau_of
+from ._ways import NO_COMMAND, Ended, Way, sent
 
 
 def tableaux_of(text: str, words: List[str]) -> Any:
@@ -49,3 +35,60 @@ def answer_of(line: str, text: str, home: Home) -> Any:
     if "-m" in words[1:4]:
         return text.rstrip("\n")
     return OTHERS[words[0]](text, words) if words[0] in OTHERS else Expansion._read(text, parent_of(home, words))
+
+
+class Block(NamedTuple):
+    """The outcome of a line of a batch. `text` is what was printed for it. If there is no answer, `refusal` says why: a `Refusal`, a
+    `TimeoutError`, a `MemoryError`, or a `NoCalculator` if the system ended the program."""
+
+    line: str
+    text: str
+    refusal: Optional[Exception]
+    arguments: Tuple[Any, ...] = (None,) * 4
+
+    @property
+    def answer(self) -> Any:
+        """The value that the method of the line's command returns. If there is none, `refusal` is raised."""
+        if self.refusal:
+            raise self.refusal
+        return answer_of(self.line, self.text, home_of(self.arguments))
+
+    def __repr__(self) -> str:
+        return f"Block(line={self.line!r}, text={self.text!r}, refusal={self.refusal!r})"
+
+
+class Desk(NamedTuple):
+    """How lines are asked: over which way, what opens a Calculator for the answers, and how long they may take."""
+
+    way: Way
+    arguments: Tuple[Any, ...]
+    seconds: Optional[float]
+
+    def late(self, line: str) -> TimeoutError:
+        return TimeoutError(f"no answer within {self.seconds} s, to {line if len(line) <= 160 else line[:160] + ' ..'}")
+
+    def texts(self, lines: List[str]) -> List[str]:
+        """What is printed for lines, all of them within the time. (What a batch passes over is no command.)"""
+        try:
+            return self.way.blocks([sent(it) or NO_COMMAND for it in lines], self.seconds) if lines else []
+        except TimeoutError:
+            raise self.late(lines[0]) from None
+
+    def _block(self, line: str, text: str) -> Block:
+        is_refused = text.startswith("! ")
+        return Block(line, "" if is_refused else text, Refusal.of(text, line) if is_refused else None, self.arguments)
+
+    def one(self, line: str) -> Block:
+        """The outcome of a line."""
+        try:
+            return self._block(line, *self.texts([line]))
+        except (TimeoutError, MemoryError, Ended) as error:
+            return Block(line, "", error, self.arguments)
+
+    def all(self, lines: List[str], most: Optional[float]) -> List[Block]:
+        """The outcomes of lines. If they take longer than `most`, it is a TimeoutError."""
+        if self.seconds is None and len(lines) > 1:
+            # (or each line by itself, to see whose it is)
+            with suppress(MemoryError, Ended):
+                return list(map(self._block, lines, self._replace(seconds=most).texts(lines)))
+        return list(map(self.one, lines))

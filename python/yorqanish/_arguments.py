@@ -8,7 +8,7 @@ from collections.abc import Sequence as AnySequence
 from fractions import Fraction
 from numbers import Integral, Rational
 from operator import index
-from typing import Any, Iterable, List, NoReturn, Optional, Protocol, Sequence, Set, SupportsFloat, SupportsIndex, Tuple, TypeVar, Union, cast
+from typing import Any, List, NoReturn, Optional, Protocol, Sequence, Set, SupportsFloat, SupportsIndex, Tuple, TypeVar, Union, cast
 
 Numbers = Tuple[int, ...]
 Partition = Numbers
@@ -47,8 +47,8 @@ TABLES = {"numpy.ndarray", "sage.combinat.tableau.Tableau"}
 # Sequences of characters are no lists of numbers, even if they are empty.
 TEXTS = (str, bytes, bytearray, memoryview, UserString)
 
-# More numbers or digits than a line of `calc` holds.
-MOST_NUMBERS, MOST_BITS = 4096, 12000
+# More numbers than a line of `calc` holds.
+MOST_NUMBERS = 4096
 
 
 class Fixed:
@@ -104,20 +104,18 @@ def whole(value: SupportsIndex, name: str) -> int:
         raise TypeError(f"{name}: {value!r} is not an integer")
     if number < 0:
         raise ValueError(f"{name}: {number} is negative")
-    if number.bit_length() > MOST_BITS:
-        raise ValueError(f"{name}: a number of {number.bit_length()} bits is too long to be sent")
     return number
 
 
-def seconds(value: Optional[SupportsFloat], name: str = "timeout") -> Optional[float]:
+def seconds(value: Optional[SupportsFloat]) -> Optional[float]:
     """A time in seconds; nothing, and what is infinite, is no limit."""
     if value is None:
         return None
     if isinstance(value, TEXTS) or type(value).__name__.startswith(("bool", "complex")) or not hasattr(value, "__float__"):
-        raise TypeError(f"{name}: {value!r} is not a number of seconds")
+        raise TypeError(f"timeout: {value!r} is not a number of seconds")
     number = float(value)
     if not number >= 0:
-        raise ValueError(f"{name}: {value!r} is not a number of seconds that is at least 0")
+        raise ValueError(f"timeout: {value!r} is not a number of seconds that is at least 0")
     return None if math.isinf(number) else number
 
 
@@ -191,22 +189,3 @@ def spoken(rows: Rows, name: str, inner: Numbers = ()) -> str:
 def text_of(value: str) -> str:
     """The characters of a string, also of a type that is derived from `str` and shows itself in another way."""
     return value if type(value) is str else str.__str__(value)
-
-
-def words(*parts: Union[str, int, Numbers]) -> str:
-    """A line of words: texts and numbers as they are, lists number by number."""
-    them: List[Union[str, int]] = []
-    for it in parts:
-        if isinstance(it, tuple):
-            them += it
-        elif it != "":
-            them.append(it)
-    return " ".join(map(str, them))
-
-
-def factors(shapes: Iterable[Shape]) -> List[Union[str, Numbers]]:
-    """The factors of a product with `-` between them."""
-    parts: List[Union[str, Numbers]] = []
-    for i, shape in enumerate(shapes, 1):
-        parts += "-", partition(shape, f"factor {i}")
-    return parts[1:]

@@ -121,9 +121,8 @@ def test_sums_over_terms():
 
 def test_texts_and_back():
     for it in (CALC.expand("p", "s[3,1]"), CALC.coprod([2, 1]), CALC.dschubmult([2, 1], [2, 1]), CALC.s.zero(), CALC.s({(1,): 2**127 - 1, (2,): Fraction(-1, 10**20)})):
-        same((Expansion.from_json(it.to_json()), len(it.to_csv().splitlines())), (it, len(it) + 1))
+        same(Expansion.from_json(it.to_json()), it)
         same(json.loads(it.to_json())["parent"], [it.parent.name])
-    same(CALC.mult([1], [1]).to_csv(), 'coefficient,label\n1,"(2,)"\n1,"(1, 1)"\n')
 
 
 def test_pictures():
