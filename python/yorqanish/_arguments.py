@@ -56,19 +56,15 @@ class Fixed:
 
     __slots__ = ()
 
-    def copy(self: Self) -> Self:
+    def copy(self: Self, memo: Any = None) -> Self:
         return self
 
-    def __deepcopy__(self: Self, memo: Any) -> Self:
-        return self
+    __copy__ = __deepcopy__ = copy
 
-    __copy__ = copy
+    def __setattr__(self, name: str, *value: object) -> NoReturn:
+        raise AttributeError(f"{type(self).__name__} does not change, and neither does its {name}")
 
-    def __setattr__(self, name: str, value: object) -> NoReturn:
-        raise AttributeError(f"{type(self).__name__} does not change: {name} cannot be set")
-
-    def __delattr__(self, name: str) -> NoReturn:
-        raise AttributeError(f"{type(self).__name__} does not change: {name} cannot be deleted")
+    __delattr__ = __setattr__
 
 
 def integer(value: object) -> Optional[int]:

@@ -5,7 +5,7 @@ import os
 from functools import partial
 from typing import Any, Callable, Dict, Iterable, Iterator, List, Optional, SupportsFloat, SupportsIndex, Tuple, Type, TypeVar, Union, cast
 
-from . import _arguments
+from . import _arguments, _search
 from ._answers import Block, Desk, answer_of
 from ._arguments import Exponents, Numbers, Partition, Permutation, Rows, Shape, numbers, partition, text_of, whole, without_zeros
 from ._batch import Lanes, Result, Source, Task, blocks, own, with_bar
@@ -13,9 +13,8 @@ from ._commands import Refusal, line_of
 from ._elements import BASES, Expansion, Home, Parent
 from ._kinds import Number, atom
 from ._sage import basis_of
-from ._search import way
 from ._tableaux import Grid, Pair, Tableau, tableau_of
-from ._ways import LONGEST, Way
+from ._ways import LONGEST, NoCalculator, Way
 
 Words = Union[str, SupportsIndex, Shape]
 Seconds = Optional[SupportsFloat]
@@ -51,16 +50,15 @@ class Calculator:
     _kept: Dict[Any, Calculator] = {}
 
     def __init__(self, *, program: Optional[str] = None, library: Union[bool, str, None] = None, timeout: Seconds = None) -> None:
-        self._open(program, library, timeout)
-
-    def _open(self, program: Any, library: Any, timeout: Seconds, digest: Optional[str] = None) -> None:
-        program, library = _path(program), bool(library) if library in (True, False, None) else _path(library)
-        if library and program:
+        given: List[Any] = [library, program]
+        if all(given):
             raise ValueError("a Calculator has either a program or the library")
+        # (a path means the same file in another folder)
+        given = [it if it in (True, False, None) else os.path.abspath(it) for it in given]
         self._library, self._seconds = bool(library), None
         self._seconds = self._limit(timeout)
-        self._way: Way = way(library, program, digest)
-        self._arguments = library, program, getattr(self._way, "digest", None), self._seconds
+        self._way: Way = _search.library(given[0]) if library or _search.IS_WINDOWS else _search.program(given[1])
+        self._arguments = *given, self._way.digest, self._seconds
         self._home = Home(self._arguments, self)
         for name in (*BASES, "X", "monomials"):
             setattr(self, name, self._home.parent(name))
@@ -71,8 +69,9 @@ class Calculator:
         kept = cls._kept.get(arguments)
         if kept is None or kept._way.is_over():
             library, program, digest, seconds = arguments
-            kept = cls.__new__(cls)
-            kept._open(program, library, seconds, digest)
+            kept = cls(program=program, library=library, timeout=seconds)
+            if digest and kept._way.digest and kept._way.digest != digest:
+                raise NoCalculator(f"{kept._way.path} is not the program that the Calculator had where it was made")
             cls._kept[arguments] = kept
         return kept
 
@@ -361,11 +360,6 @@ class Calculator:
         calculator = object.__new__(Calculator)
         calculator.__dict__.update(self.__dict__, _way=self._way.apart(True))
         return Task(partial(getattr(calculator, method.__name__), *arguments, **options), calculator._way.close)
-
-
-def _path(given: Any) -> Optional[str]:
-    """A path that means the same file in another folder."""
-    return None if given is None else os.path.abspath(os.fspath(given))
 
 
 def _word(part: Words) -> str:

@@ -14,7 +14,7 @@ from numbers import Rational
 from typing import Any, Callable, Dict, Generic, ItemsView, Iterable, Iterator, KeysView, List, Mapping, NamedTuple, Optional, SupportsIndex, Tuple, Union, ValuesView
 
 from ._arguments import Coefficient, Fixed, Label, Numbers, integer, ratio, text_of, whole
-from ._kinds import DOUBLE, MONOMIALS, PAIRS, PERMUTATIONS, QUANTUM, SYMMETRIC, Kind, Number, added, atom
+from ._kinds import DOUBLE, MONOMIALS, PAIRS, PERMUTATIONS, QUANTUM, SYMMETRIC, Kind, Number, added, atom, term
 from ._sage import basis_of, element_of, forbid_as_coefficient, is_element, is_same, refuse_residue
 
 # The bases of the ring of symmetric functions, between which elements are converted.
@@ -244,14 +244,13 @@ class Parent(Fixed, Generic[Label]):
             for it in of_pair.items():
                 together.setdefault(it, []).append(text)
         table: Dict[Any, Number] = {}
-        is_cut, kind = self.name == "cohomology", QUANTUM if self.name == "cohomology" else self.kind
         for (beside, weight), them in together.items():
             for line, count in Counter("".join(them).splitlines()).items():
                 if line != "0":
-                    label, c = kind.term(line)
-                    if is_cut:
+                    label, c = term(line)
+                    if self.name == "cohomology":
                         c, label = 0 if label[0] else c, label[1]
-                    label = kind.times(label, beside) if beside else label
+                    label = self.kind.times(label, beside) if beside else label
                     table[label] = table.get(label, 0) + c * weight * count
         return table
 
@@ -351,7 +350,7 @@ class Expansion(Fixed, Generic[Label, Coefficient]):
     def _read(text: str, parent: Parent[Any]) -> Expansion[Any, Any]:
         """The element of a list of terms that `calc` has printed."""
         lines = text.splitlines() if text != "0\n" else []
-        terms = dict(map(parent.kind.term, lines))
+        terms = dict(map(term, lines))
         if not text or len(terms) != len(lines):
             raise ValueError(f"{text!r} is not a list of terms")
         return Expansion._made(terms, parent)

@@ -12,11 +12,10 @@ Number = Union[int, Fraction]
 
 
 class Kind(NamedTuple):
-    """`term` reads a printed term: its label and its coefficient. `find` makes a label of what is asked for, `order` is the key by which `calc`
-    sorts labels, `size` is the degree of one, `plain` and `latex` write one by the letter of the basis. `one` is the label of 1, and `of` makes a
-    label of a list. `apart` gives the list that is a factor of a command and what is beside it, and `times` multiplies a label by the latter."""
+    """`find` makes a label of what is asked for, `order` is the key by which `calc` sorts labels, `size` is the degree of one, `plain` and `latex` write
+    one by the letter of the basis. `one` is the label of 1, and `of` makes a label of a list. `apart` gives the list that is a factor of a command
+    and what is beside it, and `times` multiplies a label by the latter."""
 
-    term: Callable[[str], Tuple[Any, Number]]
     find: Callable[[Any], Any]
     order: Callable[[Any], Any]
     size: Callable[[Any], int]
@@ -30,36 +29,22 @@ class Kind(NamedTuple):
 
 # ---- reading
 
-def one(label: str) -> Numbers:
-    """The numbers of a label: `(2,1)` is (2, 1)."""
+@lru_cache(1 << 16)
+def listed(label: str) -> Numbers:
+    """The numbers of a list: `(2,1)` is (2, 1)."""
     if label[:1] != "(" or label[-1:] != ")":
         raise ValueError(f"{label!r} is not a label")
     return tuple(map(int, label[1:-1].split(","))) if label != "()" else ()
 
 
-# (the lists of pairs and grids come again and again)
-listed = lru_cache(1 << 16)(one)
-
-
-def two(label: str) -> Tuple[Numbers, Numbers]:
-    first, second = label.split(" ")
-    return listed(first), listed(second)
-
-
-def power(label: str) -> Tuple[int, Numbers]:
-    first, second = label.split("  ")
-    if first[:2] != "q^":
-        raise ValueError(f"{label!r} is not a label")
-    return int(first[2:]), listed(second)
-
-
-def term_of(read: Callable[[str], Any], line: str) -> Tuple[Any, Number]:
-    coefficient, label = line.split("  ", 1)
-    return read(label), Fraction(coefficient) if "/" in coefficient else int(coefficient)
-
-
 # (such terms come again and again)
-ONE_LIST = lru_cache(1 << 16)(partial(term_of, one))
+@lru_cache(1 << 16)
+def term(line: str) -> Tuple[Any, Number]:
+    """The label and the coefficient of a printed term, as `2  (2,1)`, `2  (2,1) (1)` or `2  q^1  (2,1)`."""
+    coefficient, *words = line.split()
+    label = tuple(int(it[2:]) if it[:2] == "q^" else listed(it) for it in words)
+    return label[0] if len(label) == 1 else label, Fraction(coefficient) if "/" in coefficient else int(coefficient)
+
 
 # ---- looking up and ordering
 
@@ -127,7 +112,7 @@ product = partial(powers_of, index="_{{{}}}", power="^{{{}}}", between=" ")
 
 # ---- the kinds
 
-def both(read: Callable[[str], Any], first: Kind, second: Kind, signs: Tuple[str, str] = ("*", " "), order: Tuple[int, int] = (0, 1), **more: Any) -> Kind:
+def both(first: Kind, second: Kind, signs: Tuple[str, str] = ("*", " "), order: Tuple[int, int] = (0, 1), **more: Any) -> Kind:
     """The kind of labels that have two parts, which are written in this order, with a sign between them if both are there: in a line, and in LaTeX."""
 
     def find(label: Any) -> Any:
@@ -144,18 +129,16 @@ def both(read: Callable[[str], Any], first: Kind, second: Kind, signs: Tuple[str
         return signs[1].join(filter(None, ((first, second)[i].latex(letter, label[i]) for i in order)))
 
     by_both, sizes = lambda it: (first.order(it[0]), second.order(it[1])), lambda it: first.size(it[0]) + second.size(it[1])
-    return Kind(partial(term_of, read), find, by_both, sizes, plain, latex, (first.one, second.one), **more)
+    return Kind(find, by_both, sizes, plain, latex, (first.one, second.one), **more)
 
 
-SYMMETRIC = Kind(ONE_LIST, a_partition, by_degree, sum, atom, indexed)
-MONOMIALS = Kind(ONE_LIST, exponents, by_degree, sum, powers_of, product)
-PERMUTATIONS = Kind(ONE_LIST, a_permutation, by_inversions, inversions, atom, permuted, (1,))
-PAIRS = both(two, SYMMETRIC, SYMMETRIC, ("#", " \\otimes "))
+SYMMETRIC = Kind(a_partition, by_degree, sum, atom, indexed)
+MONOMIALS = Kind(exponents, by_degree, sum, powers_of, product)
+PERMUTATIONS = Kind(a_permutation, by_inversions, inversions, atom, permuted, (1,))
+PAIRS = both(SYMMETRIC, SYMMETRIC, ("#", " \\otimes "))
 # (the exponent of q, whose degree depends on the ring)
-OF_Q = Kind(
-    *(ONE_LIST, lambda it: whole(it, "the power of q"), int, lambda it: 0),
-    *(lambda letter, it: powers_of("q", (it,), index=""), lambda letter, it: product("q", (it,), index=""), 0),
-)
-QUANTUM = both(power, OF_Q, SYMMETRIC, of=lambda it: (0, it), apart=lambda it: (it[1], it[0]), times=lambda label, beside: (label[0] + beside, label[1]))
+IN_Q = (lambda letter, it: powers_of("q", (it,), index="")), (lambda letter, it: product("q", (it,), index=""))
+OF_Q = Kind(lambda it: whole(it, "the power of q"), int, lambda it: 0, *IN_Q, 0)
+QUANTUM = both(OF_Q, SYMMETRIC, of=lambda it: (0, it), apart=lambda it: (it[1], it[0]), times=lambda label, beside: (label[0] + beside, label[1]))
 IN_Y = MONOMIALS._replace(plain=lambda letter, it: powers_of("y", it), latex=lambda letter, it: product("y", it))
-DOUBLE = both(two, PERMUTATIONS, IN_Y, order=(1, 0), of=lambda it: (it, ()), apart=lambda it: it, times=lambda label, beside: (label[0], added(label[1], beside)))
+DOUBLE = both(PERMUTATIONS, IN_Y, order=(1, 0), of=lambda it: (it, ()), apart=lambda it: it, times=lambda label, beside: (label[0], added(label[1], beside)))

@@ -8,7 +8,7 @@ from functools import lru_cache
 from queue import Empty, SimpleQueue
 from typing import Iterator, List, Optional, Sequence, Tuple
 
-from ._ways import BREAK, NO_MEMORY, NO_TEXT, PATIENCE, QUESTIONS, NoCalculator, Way, no_memory, not_calc
+from ._ways import BREAK, NO_MEMORY, NO_TEXT, PATIENCE, QUESTIONS, NoCalculator, Way, not_calc
 
 # The room for a first text; a buffer that had to be longer is kept for later calls up to this length.
 ROOM, MOST_KEPT = 1 << 16, 1 << 24
@@ -71,7 +71,7 @@ class Library(Way):
     def blocks(self, lines: Sequence[bytes], seconds: Optional[float]) -> List[str]:
         status, text = self.run(b"batch", b"\n".join((*lines, b"")))
         if status in (NO_TEXT, NO_MEMORY):
-            raise no_memory()
+            raise MemoryError("calc was refused memory")
         texts = text.decode("ascii").split("--\n")
         if len(texts) != len(lines):
             raise not_calc(self.path)

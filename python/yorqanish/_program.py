@@ -19,7 +19,7 @@ from io import FileIO
 from queue import Empty, SimpleQueue
 from typing import Any, Callable, Dict, Iterable, Iterator, List, Optional, Sequence, Tuple
 
-from ._ways import BREAK, END, LAST, NO_MEMORY, PATIENCE, QUESTIONS, Ended, NoCalculator, Way, closed, no_memory, not_calc, spawn
+from ._ways import BREAK, END, LAST, NO_MEMORY, PATIENCE, QUESTIONS, Ended, NoCalculator, Way, not_calc, spawn
 
 # The processes that this one has started, each with whoever reads from it. As its standard error a process has the writing end of the pipe that ties it
 # to this one. A process made by fork closes its copies of their pipes and forgets them.
@@ -248,8 +248,8 @@ class Batch:
     """A running `calc batch`, whose answers are read as they come, by the process that has started it. It ends with the last reference to this,
     and at the end of Python."""
 
-    # Whether it is to end, and whether another thread has ended it; the way that has it run a command.
-    is_done = is_stopped = False
+    # Whether it is to end, and the way that has it run a command.
+    is_done = False
     user: Optional[Program] = None
 
     def __init__(self, path: str, file: Optional[File]) -> None:
@@ -292,12 +292,6 @@ class Batch:
         ASKED.put(int)
         serve()
 
-    def stop(self) -> None:
-        """Ends the process from another thread than the one that reads, which closes the pipes."""
-        self.is_stopped = True
-        ASKED.put(partial(kill, self.process))
-        serve()
-
     def is_idle(self) -> bool:
         """Whether it waits for a line: nothing comes from it, not even its end. (Once it has ended, the numbers of its pipes may be those of others.)"""
         return self.process.returncode is None and not self._coming.poll(0)
@@ -336,13 +330,13 @@ class Batch:
 
     def _gone(self) -> Exception:
         """Why there is no more to be read."""
-        if self.is_stopped:
-            return closed()
+        if self.user:
+            self.user.check()
         try:
             status = done(self.process.wait, 1)
         except subprocess.TimeoutExpired:
             return Ended(f"{self.path} has closed its output")
-        return no_memory() if status == NO_MEMORY else Ended(f"{self.path} ended with status {status}")
+        return MemoryError("calc was refused memory") if status == NO_MEMORY else Ended(f"{self.path} ended with status {status}")
 
     def exchange(self, lines: Sequence[bytes], seconds: Optional[float]) -> List[str]:
         """The blocks of lines."""
@@ -398,50 +392,44 @@ class Program(Way):
         self._file = tried(self._idle[0])
         self.digest = self._file.digest if self._file else None
 
-    def _taken(self) -> Batch:
-        """A process that is not in use."""
+    @contextmanager
+    def _lent(self) -> Iterator[Batch]:
+        """A process that is not in use. After its command it waits for another one; if that was given up, it ends."""
         while True:
             self.check()
             try:
                 batch: Batch = self._idle.pop()
             except IndexError:
                 batch = Batch(self.path, self._file)
-            batch.user = self
-            # (who closes the way stops the processes that it uses; one that somebody has killed while nobody needed it is missed by nobody)
+            batch.user, is_idle = self, False
+            # (who closes the way ends the processes that it uses; one that somebody has killed while nobody needed it is missed by nobody)
             if batch.is_idle() and not self.is_over():
-                return batch
+                break
             batch.end()
-
-    def _left(self, batch: Batch, is_idle: bool) -> None:
-        """Has a process that ran a command run another one, or end."""
-        batch.user = None
-        if is_idle and not self.is_over():
-            self._idle.append(batch)
-        else:
-            batch.end()
+        try:
+            yield batch
+            is_idle = not self.is_over()
+        finally:
+            batch.user = None
+            if is_idle:
+                self._idle.append(batch)
+            else:
+                batch.end()
 
     def blocks(self, lines: Sequence[bytes], seconds: Optional[float]) -> List[str]:
-        batch, is_idle = self._taken(), False
-        try:
-            texts = batch.exchange(lines, seconds)
-            is_idle = True
-            return texts
-        finally:
-            self._left(batch, is_idle)
+        with self._lent() as batch:
+            return batch.exchange(lines, seconds)
 
     def listed(self, line: bytes, seconds: Optional[float]) -> Iterator[str]:
-        batch, is_idle = self._taken(), False
-        try:
+        with self._lent() as batch:
             yield from batch.listing(line, seconds)
-            is_idle = True
-        finally:
-            self._left(batch, is_idle)
 
     def close(self) -> None:
         self._is_closed = True
         while self._idle and self._idle is not getattr(self._whole, "_idle", None):
             self._idle.pop().end()
-        for reader in list(STARTED.values()):
-            it = reader()
-            if it and it.user and self in (it.user, it.user._whole):
-                it.stop()
+        # (their pipes are closed by the threads that read from them)
+        for it in filter(None, [reader() for reader in list(STARTED.values())]):
+            if it.user and self in (it.user, it.user._whole):
+                ASKED.put(partial(kill, it.process))
+                serve()

@@ -4,6 +4,7 @@ from __future__ import annotations
 import _thread
 import copy
 import importlib.util
+import re
 from typing import Any, Callable, Iterator, List, Optional, Sequence
 
 from ._arguments import text_of
@@ -54,12 +55,14 @@ class Ended(NoCalculator):
 
 
 class Way:
-    """How lines of words become the texts of their answers: `blocks` gives those of lines of a batch, none of which it passes over, and `listed` the lines
-    of an answer as they are listed. `close` lets go of what is held, and ends what still runs; whoever asks later is refused. `apart` is the same for
-    some of its calls, which can be closed by themselves, and may share what waits for a call."""
+    """How lines of words become the texts of their answers: `blocks` gives those of lines of a batch, none of which it passes over, within so many seconds,
+    and `listed` the lines of an answer as they are listed. `close` lets go of what is held, and ends what still runs; whoever asks later is refused.
+    `apart` is the same for some of its calls, which can be closed by themselves, and may share what waits for a call."""
 
     path: str
     can_be_stopped: bool
+    blocks: Callable[[Sequence[bytes], Optional[float]], List[str]]
+    listed: Callable[[bytes, Optional[float]], Iterator[str]]
     # What the program's file is known by.
     digest: Optional[str] = None
     # What no call has: processes, or buffers (a list's `append` and `pop` are not interrupted).
@@ -78,24 +81,14 @@ class Way:
 
     def check(self) -> None:
         if self.is_over():
-            raise closed()
-
-    def blocks(self, lines: Sequence[bytes], seconds: Optional[float]) -> List[str]:
-        raise NotImplementedError
-
-    def listed(self, line: bytes, seconds: Optional[float]) -> Iterator[str]:
-        raise NotImplementedError
+            raise NoCalculator("the calculator is closed")
 
     def close(self) -> None:
         self._is_closed = True
 
 
-def is_subinterpreter() -> bool:
-    found = next((it for it in ("_interpreters", "_xxsubinterpreters") if importlib.util.find_spec(it)), "")
-    return bool(found) and bool(__import__(found).get_current() != __import__(found).get_main())
-
-
-IS_SUBINTERPRETER = is_subinterpreter()
+INTERPRETERS = [__import__(it) for it in ("_interpreters", "_xxsubinterpreters") if importlib.util.find_spec(it)][:1]
+IS_SUBINTERPRETER = any(it.get_current() != it.get_main() for it in INTERPRETERS)
 
 
 def spawn(task: Callable[..., object], *arguments: Any) -> None:
@@ -107,7 +100,7 @@ def spawn(task: Callable[..., object], *arguments: Any) -> None:
 
 
 def sent(line: str) -> Optional[bytes]:
-    """The line of a batch that is sent for a line, or nothing if a batch passes over it.
+    """The line of a batch that is sent for a line, or nothing if a batch passes over it, since it has no word or is a comment.
 
     A line feed at its end is dropped, with or without a carriage return before it. One within it, and a zero byte, are sent as another byte
     that is in no word of a command, and is refused at its place.
@@ -118,29 +111,12 @@ def sent(line: str) -> Optional[bytes]:
         return line.encode()
     if not isinstance(line, str):
         raise TypeError(f"a line is a string, and {line!r} is not")
-    data = text_of(line).encode("utf-8", "surrogatepass").replace(b"\0", b"\x01")
-    data = data[:-1] if data.endswith(b"\n") else data
-    data = data[:-1] if data.endswith(b"\r") else data
-    data = data[:-1] + b"\x01" if data.endswith(b"\r") else data
-    if b"\n" in data:
-        data = data.replace(b"\n", b"\x01")
-        return b"\x01" + data if is_passed_over(data) else data
-    return None if is_passed_over(data) else data
-
-
-def is_passed_over(data: bytes) -> bool:
-    """Whether a batch gives no block for a line: it has no word, or is a comment."""
-    words = data.strip(b" \t")
-    return len(data) <= LONGEST and (not words or words.startswith(b"#"))
+    data = re.sub(rb"\r?\n?\Z", b"", text_of(line).encode("utf-8", "surrogatepass"), count=1)
+    clean = re.sub(rb"[\0\n]|\r\Z", b"\x01", data)
+    if len(clean) > LONGEST or clean.strip(b" \t")[:1] not in (b"", b"#"):
+        return clean
+    return b"\x01" + clean if b"\n" in data else None
 
 
 def not_calc(path: str) -> NoCalculator:
     return NoCalculator(f"{path} does not answer as calc does; is it another program or library of this name, or another version?")
-
-
-def no_memory() -> MemoryError:
-    return MemoryError("calc was refused memory")
-
-
-def closed() -> NoCalculator:
-    return NoCalculator("the calculator is closed")

@@ -49,7 +49,7 @@ REASONS = {
     "expand q s[1]": "this word is not allowed here, in expand [q] s[1]",
     "expand m " + "(" * 65 + "1" + ")" * 65: "at most 64 parentheses can be open",
     "expand m m[" + ",".join(["0"] * 65) + "]": "an atom has at most 64 numbers",
-    "x" * 5000: "there is no such command",
+    "x" * 5000: "a line has at most 4,096 bytes",
     "# x": "there is no such command",
     "": "there is no command",
 }
