@@ -10,13 +10,12 @@ raises a `Refusal`.
 from pathlib import Path as _Path
 
 # (each under its own name, for users who import it by that name and for their types)
-from ._answers import Block as Block
 from ._arguments import Exponents as Exponents, Partition as Partition, Permutation as Permutation
-from ._batch import Task as Task
 from ._calculator import Calculator
 from ._commands import LiteralRefusal, RangeRefusal, Refusal, ShapeRefusal, SyntaxRefusal, TooLarge
 from ._elements import Expansion, Parent as Parent
 from ._kinds import Number as Number
+from ._lines import Block as Block, Task as Task
 from ._tableaux import Grid as Grid, Pair as Pair, Picture as Picture, Tableau as Tableau, diagram as diagram, rothe_diagram as rothe_diagram
 from ._ways import Ended as Ended, NoCalculator
 

@@ -6,12 +6,11 @@ from functools import partial
 from typing import Any, Callable, Dict, Iterable, Iterator, List, Optional, SupportsFloat, SupportsIndex, Tuple, Type, TypeVar, Union, cast
 
 from . import _arguments, _search
-from ._answers import Block, Desk, answer_of
 from ._arguments import Exponents, Numbers, Partition, Permutation, Rows, Shape, numbers, partition, text_of, whole, without_zeros
-from ._batch import Lanes, Result, Source, Task, blocks, own, with_bar
 from ._commands import Refusal, line_of
 from ._elements import BASES, Expansion, Home, Parent
 from ._kinds import Number, atom
+from ._lines import Block, Desk, Lanes, Result, Source, Task, answer_of, blocks, own, with_bar
 from ._sage import basis_of
 from ._tableaux import Grid, Pair, Tableau, tableau_of
 from ._ways import LONGEST, NoCalculator, Way
@@ -55,10 +54,10 @@ class Calculator:
             raise ValueError("a Calculator has either a program or the library")
         # (a path means the same file in another folder)
         given = [it if it in (True, False, None) else os.path.abspath(it) for it in given]
-        self._library, self._seconds = bool(library), None
-        self._seconds = self._limit(timeout)
+        self._library, self._seconds = bool(library), _arguments.seconds(timeout)
         self._way: Way = _search.library(given[0]) if library or _search.IS_WINDOWS else _search.program(given[1])
         self._arguments = *given, self._way.digest, self._seconds
+        self._desk(timeout)
         self._home = Home(self._arguments, self)
         for name in (*BASES, "X", "monomials"):
             setattr(self, name, self._home.parent(name))
@@ -92,15 +91,12 @@ class Calculator:
         """Ends the program, even if other threads are using it. A call that comes later is refused."""
         self._way.close()
 
-    def _limit(self, timeout: Seconds) -> Optional[float]:
-        """The seconds that a command may take."""
+    def _desk(self, timeout: Seconds) -> Desk:
+        """How lines are asked that may take so many seconds."""
         seconds = self._seconds if timeout is None else _arguments.seconds(timeout)
         if seconds is not None and self._library:
             raise ValueError("timeout: a command of the library cannot be stopped")
-        return seconds
-
-    def _desk(self, timeout: Seconds) -> Desk:
-        return Desk(self._way, self._arguments, self._seconds if timeout is None else self._limit(timeout))
+        return Desk(self._way, self._arguments, seconds)
 
     def _texts(self, lines: List[str], timeout: Seconds) -> List[str]:
         """What is printed for lines, all of them within this time. What is refused is raised."""

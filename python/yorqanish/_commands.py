@@ -90,70 +90,37 @@ def place_of(words: List[str], word: int) -> Tuple[Argument, int]:
     return found, start
 
 
-def in_expression(kind: str, text: str, byte: int, command: str, argument: str) -> str:
-    """Why an expression was refused at this byte."""
-    front, rest = text[:byte], text[byte:]
-    if kind == "Syntax":
-        return "the expression cannot continue like this" if rest else "the expression ends too early"
-    if kind == "Range":
-        if rest[:1] == "(":
-            return "at most 64 parentheses can be open"
-        if rest:
-            return "an atom has at most 64 numbers"
-        most = "at most 10, also for the product of both" if command == "plethysm" else "at most 20 into m and s, 15 into p, h and e"
-        return f"the degree is too high: {most}"
-    if front.endswith("/") and not rest.split("*")[0].strip("0").startswith(tuple("123456789")):
-        return "the denominator is 0"
-    if argument == "inner" and (rest[:1] in "-/" or "[" not in front.rsplit("]", 1)[-1]):
-        return "the inner expression of a plethysm must not have a minus sign or a fraction"
-    return "a part is greater than the part before it"
-
-
-def in_list(kind: str, words: List[str], word: int, argument: Argument, start: int) -> str:
-    """Why a word of a list that begins there was refused."""
-    command, number, name = words[0], word - start + 1, argument.name
-    value = words[word] if word < len(words) else ""
-    if argument.sort == PARTITION:
-        if kind == "Range":
-            return "at most 8 factors" if value == "-" else "at most 64 parts" if number > 64 else "at most 512 cells"
-        before = words[word - 1] if number > 1 else ""
-        is_greater = before.isdigit() and int(value) > int(before)
-        return f"part {number} of {name} is greater than {f'part {number - 1}' if is_greater else 'that of the outer partition'}"
-    if argument.sort == PERMUTATION:
-        if kind == "Range":
-            return f"at most {8 if command == 'dschubmult' else 16} letters"
-        is_twice = value.strip("0") and value.lstrip("0") in [it.lstrip("0") for it in words[start:word]]
-        return f"letter {number} of {name} {'occurs twice' if is_twice else 'is not between 1 and the number of letters'}"
-    if argument.sort == LETTERS:
-        return "at most 256 letters" if number > 256 else "a letter is between 1 and 65,535"
-    if kind == "Range":
-        entries = sum(it not in ("/", ".") for it in words[start:word])
-        return "at most 256 entries" if command == "unrsk" and entries >= 256 else "an entry is between 1 and 65,535"
-    if word == len(words):
-        return f"{name} ends too early for its shape"
-    return "the tableau after -from is not in the list" if value == "-from" else f"{name} is not a tableau of its shape from here on"
+# Why a word of an argument is refused that is of the right form, by the kind of the refusal and by what the argument is.
+WHY = {
+    ("Range", PARTITION): "a product has at most 8 factors, a partition at most 64 parts and 512 cells",
+    ("Range", PERMUTATION): "at most 16 letters, and 8 of dschubmult",
+    ("Range", LETTERS): "at most 256 letters, each between 1 and 65,535",
+    ("Range", TABLEAU): "at most 256 entries, each between 1 and 65,535",
+    ("Range", NUMBER): "{name} is between 1 and 64",
+    ("Range", EXPRESSION): "the degree is at most 20 into m and s, 15 into p, h and e, and 10 in a plethysm; an atom has at most 64 numbers, and 64 parentheses can be open",
+    ("Shape", PARTITION): "part {number} of {name} is greater than the one before it, or than that of the outer partition",
+    ("Shape", PERMUTATION): "letter {number} of {name} occurs twice, or is not between 1 and the number of letters",
+    ("Shape", TABLEAU): "{name} is not a tableau of its shape from here on",
+    ("Shape", EXPRESSION): "a part is greater than the part before it, a denominator is 0, or the inner expression of a plethysm has a minus sign or a fraction",
+}
 
 
 def why(kind: str, words: List[str], word: int, byte: int) -> str:
     """Why the words were refused at this place."""
-    if kind == "Range" and word == 0:
-        return "a line has at most 4,096 bytes"
-    if not words:
-        return "there is no command"
     if word == 0:
-        return "there is no such command"
+        return "a line has at most 4,096 bytes" if kind == "Range" else "there is no such command" if words else "there is no command"
     argument, start = place_of(words, word)
     if kind == "Literal":
         return "a number is at most 2^127 - 1"
-    if argument.sort == EXPRESSION and start and word < len(words) and argument is not TARGET:
-        return in_expression(kind, words[word], byte, words[0], argument.name)
-    if kind == "Syntax":
-        if word == len(words) and argument in FACTORS and "-" not in words:
-            return "a product has two to eight factors"
-        return "the command ends too early" if word == len(words) else "this word is not allowed here"
-    if argument.sort == EXPRESSION:
-        return "a limit is exceeded" if kind == "Range" else "this list is not allowed here"
-    return f"{argument.name} is between 1 and 64" if argument.sort == NUMBER else in_list(kind, words, word, argument, start)
+    if kind == "Shape" and words[word : word + 1] == ["-from"]:
+        return "the tableau after -from is not in the list"
+    if kind != "Syntax":
+        return WHY[kind, argument.sort].format(name=argument.name, number=word - start + 1)
+    if word == len(words):
+        return "a product has two to eight factors" if argument in FACTORS and "-" not in words else "the command ends too early"
+    if argument.sort != EXPRESSION or argument is TARGET or not start:
+        return "this word is not allowed here"
+    return "the expression cannot continue like this" if words[word][byte:] else "the expression ends too early"
 
 
 def shown(words: List[str], word: int) -> str:

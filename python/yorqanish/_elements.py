@@ -34,25 +34,17 @@ class Form(NamedTuple):
     letter: str
     command: str = ""
     numbers: Tuple[str, ...] = ()
-    fits: Callable[..., bool] = lambda label: True
-
-
-def in_box(rows: int, cols: int, label: Numbers) -> bool:
-    return len(label) <= rows and sum(label[:1]) <= cols
-
-
-def in_alcove(rows: int, level: int, label: Numbers) -> bool:
-    return len(label) <= rows and sum(label[:1]) - sum(label[rows - 1 :]) <= level
+    fits: Callable[..., Any] = lambda label: True
 
 
 FORMS: Dict[str, Form] = {
     **{letter: Form(f"calc.{letter}", SYMMETRIC, letter) for letter in "phe"},
     "s": Form("calc.s", SYMMETRIC, "s", "mult"),
     "m": Form("calc.m", SYMMETRIC, "m", "expand m"),
-    "in_variables": Form("calc.s.in_variables({})", SYMMETRIC, "s", "mult -r {}", ("rows",), lambda rows, it: bool(len(it) <= rows)),
-    "quantum_ring": Form("calc.quantum_ring({}, {})", QUANTUM, "s", "quantum {} {}", ("rows", "cols"), lambda rows, cols, it: in_box(rows, cols, it[1])),
-    "cohomology": Form("calc.cohomology({}, {})", SYMMETRIC, "s", "quantum {} {}", ("rows", "dimension"), lambda rows, n, it: in_box(rows, n - rows, it)),
-    "fusion_ring": Form("calc.fusion_ring({}, {})", SYMMETRIC, "s", "fusion {} {}", ("rows", "level"), in_alcove),
+    "in_variables": Form("calc.s.in_variables({})", SYMMETRIC, "s", "mult -r {}", ("rows",), lambda rows, it: len(it) <= rows),
+    "quantum_ring": Form("calc.quantum_ring({}, {})", QUANTUM, "s", "quantum {} {}", ("rows", "cols"), lambda rows, cols, it: len(it[1]) <= rows and sum(it[1][:1]) <= cols),
+    "cohomology": Form("calc.cohomology({}, {})", SYMMETRIC, "s", "quantum {} {}", ("rows", "dimension"), lambda rows, n, it: len(it) <= rows and sum(it[:1]) <= n - rows),
+    "fusion_ring": Form("calc.fusion_ring({}, {})", SYMMETRIC, "s", "fusion {} {}", ("rows", "level"), lambda rows, level, it: len(it) <= rows and sum(it[:1]) - sum(it[rows - 1 :]) <= level),
     "X": Form("calc.X", PERMUTATIONS, "X", "schubmult"),
     "double_X": Form("calc.schubert_ring(double=True)", DOUBLE, "X", "dschubmult"),
     "monomials": Form("calc.monomials", MONOMIALS, "x"),
@@ -190,7 +182,7 @@ class Parent(Fixed, Generic[Label]):
 
     def fits(self, label: Any) -> bool:
         """Whether a label of the right kind is one of the basis."""
-        return self.form.fits(*self.numbers, label)
+        return bool(self.form.fits(*self.numbers, label))
 
     def given(self, pairs: Iterable[Tuple[Any, Any]]) -> Dict[Any, Number]:
         """The terms of pairs of a label and a coefficient, without those whose coefficient is 0. A label is given once."""
@@ -402,18 +394,6 @@ class Expansion(Fixed, Generic[Label, Coefficient]):
             raise ValueError("0 has no degree")
         of_q = sum(self.parent.numbers) if self.parent.kind is QUANTUM else 0
         return max(self.parent.kind.size(it) + (of_q and of_q * it[0]) for it in self._terms)
-
-    def filter(self, keep: Callable[[Label, Coefficient], object]) -> Expansion[Label, Coefficient]:
-        """The terms to which a function of label and coefficient says yes."""
-        return Expansion._made({label: c for label, c in self if keep(label, c)}, self.parent)
-
-    def map(self, change: Callable[[Label, Coefficient], Tuple[Any, Any]]) -> Expansion[Label, Number]:
-        """The sum of the terms that a function of label and coefficient makes of the terms: pairs of a label and a coefficient."""
-        table: Dict[Any, Number] = {}
-        for new, c in (change(*it) for it in self):
-            (label,) = self.parent.given([(new, 1)])
-            table[label] = table.get(label, 0) + exact(c)
-        return Expansion._ordered(table, self.parent)
 
     # ---- comparing
 

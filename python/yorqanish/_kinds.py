@@ -27,8 +27,6 @@ class Kind(NamedTuple):
     times: Callable[[Any, Any], Any] = lambda label, beside: label
 
 
-# ---- reading
-
 @lru_cache(1 << 16)
 def listed(label: str) -> Numbers:
     """The numbers of a list: `(2,1)` is (2, 1)."""
@@ -44,9 +42,6 @@ def term(line: str) -> Tuple[Any, Number]:
     coefficient, *words = line.split()
     label = tuple(int(it[2:]) if it[:2] == "q^" else listed(it) for it in words)
     return label[0] if len(label) == 1 else label, Fraction(coefficient) if "/" in coefficient else int(coefficient)
-
-
-# ---- looking up and ordering
 
 
 def a_partition(label: Any) -> Numbers:
@@ -88,8 +83,6 @@ def by_inversions(label: Numbers) -> Any:
     return inversions(label), label
 
 
-# ---- writing
-
 def atom(letter: str, label: Numbers) -> str:
     return f"{letter}[{','.join(map(str, label))}]"
 
@@ -109,8 +102,6 @@ def powers_of(letter: str, label: Numbers, index: str = "{}", power: str = "^{}"
 
 
 product = partial(powers_of, index="_{{{}}}", power="^{{{}}}", between=" ")
-
-# ---- the kinds
 
 def both(first: Kind, second: Kind, signs: Tuple[str, str] = ("*", " "), order: Tuple[int, int] = (0, 1), **more: Any) -> Kind:
     """The kind of labels that have two parts, which are written in this order, with a sign between them if both are there: in a line, and in LaTeX."""

@@ -19,8 +19,7 @@ class Buffer:
 
     def __init__(self, room: int) -> None:
         self.room, held, self.length = room, ctypes.create_string_buffer(room), ctypes.c_size_t()
-        self.bytes = memoryview(held).cast("B")
-        self.place = ctypes.addressof(held), room, ctypes.addressof(self.length)
+        self.bytes, self.place = memoryview(held).cast("B"), (ctypes.addressof(held), room, ctypes.addressof(self.length))
 
 
 class Library(Way):

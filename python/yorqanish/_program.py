@@ -240,10 +240,6 @@ atexit.register(end_all, True)
 os.register_at_fork(before=pause, after_in_parent=lambda: STARTS.release(), after_in_child=forget_all)
 
 
-def deadline_in(seconds: Optional[float]) -> Optional[float]:
-    return None if seconds is None else time.monotonic() + seconds
-
-
 class Batch:
     """A running `calc batch`, whose answers are read as they come, by the process that has started it. It ends with the last reference to this,
     and at the end of Python."""
@@ -299,7 +295,7 @@ class Batch:
     def _chunks(self, lines: Iterable[bytes], seconds: Optional[float], is_each: bool = False) -> Iterator[bytes]:
         """What comes for lines, and for one of a known answer after them: where that answer is, theirs have ended. It comes within so many
         seconds, or else each part does."""
-        data, until = memoryview(b"\n".join((*lines, LAST, b""))), deadline_in(seconds)
+        data, until = memoryview(b"\n".join((*lines, LAST, b""))), None if seconds is None else time.monotonic() + seconds
         while True:
             data = self._written(data)
             while data or until is not None:
@@ -317,7 +313,7 @@ class Batch:
             if not came:
                 raise self._gone()
             yield came
-            until = deadline_in(seconds) if is_each else until
+            until = time.monotonic() + seconds if is_each and seconds is not None else until
 
     def _written(self, data: memoryview) -> memoryview:
         """Writes what the pipe takes; what is left. Of a process that has gone nothing is left: its output says so."""

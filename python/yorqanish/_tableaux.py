@@ -26,21 +26,13 @@ def square(x: int, y: int, side: int, more: str = "") -> str:
     return f'<rect x="{x}" y="{y}" width="{side}" height="{side}"{more}/>'
 
 
-def boxes(cells: Sequence[Tuple[int, int, str]]) -> Picture:
-    """Boxes by row and column, with what is written in them."""
-    parts = [square(SIDE * j, SIDE * i, SIDE) for i, j, _ in cells]
-    for i, j, text in cells:
-        place = f'x="{SIDE * j + SIDE // 2}" y="{SIDE * i + SIDE * 2 // 3}" text-anchor="middle" font-size="{min(12, 30 // max(1, len(text)))}"'
-        parts.append(f'<text {place} fill="black" stroke="none">{text}</text>' if text else "")
-    return Picture(parts, SIDE * max((j + 1 for _, j, _ in cells), default=0), SIDE * max((i + 1 for i, _, _ in cells), default=0))
-
-
 def diagram(outer: Shape, inner: Shape = ()) -> Picture:
     """The diagram of a partition, or of a skew shape."""
     parts, holes = a_partition(outer), a_partition(inner)
     if len(holes) > len(parts) or any(a > b for a, b in zip(holes, parts)):
         raise ValueError(f"{holes!r} is not in {parts!r}")
-    return boxes([(i, j, "") for i, part in enumerate(parts) for j in range(sum(holes[i : i + 1]), part)])
+    cells = [square(SIDE * j, SIDE * i, SIDE) for i, part in enumerate(parts) for j in range(sum(holes[i : i + 1]), part)]
+    return Picture(cells, SIDE * max(parts, default=0), SIDE * len(parts))
 
 
 def rothe_diagram(perm: Shape) -> Picture:
@@ -132,9 +124,6 @@ class Tableau(Fixed, Tuple[Row, ...]):
 
     def _repr_latex_(self) -> str:
         return f"${self.latex('array')}$"
-
-    def _repr_svg_(self) -> str:
-        return boxes([(i, j, str(it)) for i, row in enumerate(self) for j, it in enumerate(row) if it is not None]).svg
 
     def _latex_(self) -> str:
         return self.latex("array")

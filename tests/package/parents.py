@@ -76,7 +76,7 @@ def test_what_needs_no_look_at_the_labels():
     terms = dict(product)
     for it, factor in zip(got, (-1, 2, 2, Fraction(1, 2), 0, 2, 1)):
         same(list(it), [(label, c * factor) for label, c in terms.items() if factor])
-    some = product.filter(lambda label, c: len(label) == 3)
+    some = CALC.s({label: c for label, c in product if len(label) == 3})
     same((list(product + some), list(some + product), list(product - some)), ([(label, c + some[label]) for label, c in terms.items()],) * 2 + ([it for it in terms.items() if len(it[0]) != 3],))
 
 

@@ -13,7 +13,7 @@ from concurrent.futures import CancelledError, ProcessPoolExecutor, wait
 
 from common import CLOCKS, HANGS, LIBRARY, PROGRAM, Skipped, comes, main, need, pythons, raises, same, within
 
-from yorqanish import Calculator, Ended, Refusal, _batch, _program
+from yorqanish import Calculator, Ended, Refusal, _lines, _program
 
 CALC = Calculator(program=PROGRAM)
 LONG = tuple(range(13, 0, -1))
@@ -291,7 +291,7 @@ def test_memory_behind_a_heavy_line():
     with raises(KeyboardInterrupt):
         next(blocks)
     blocks.close()
-    assert len(read) <= _batch.MOST_AHEAD + 1000, len(read)
+    assert len(read) <= _lines.MOST_AHEAD + 1000, len(read)
     assert resource.getrusage(resource.RUSAGE_SELF).ru_maxrss - before < 400_000, "it took more than 400 MB"
 
 
