@@ -7,7 +7,7 @@ from typing import Any, Callable, Dict, Iterable, Iterator, List, Optional, Supp
 
 from . import _arguments, _search
 from ._arguments import Exponents, Numbers, Partition, Permutation, Rows, Shape, numbers, partition, text_of, whole, without_zeros
-from ._commands import Refusal, line_of
+from ._commands import Refusal, words_for
 from ._elements import BASES, Expansion, Home, Parent
 from ._kinds import Number, atom
 from ._lines import Block, Desk, Lanes, Result, Source, Task, answer_of, blocks, own, with_bar
@@ -108,8 +108,8 @@ class Calculator:
 
     def _asked(self, kind: Type[Answer], command: str, *values: Any, rows: Any = None, timeout: Seconds) -> Answer:
         """The answer of a command to these arguments."""
-        line = line_of(command, values, rows)
-        answer: Answer = answer_of(line, self._texts([line], timeout)[0], self._home)
+        words = words_for(command, values, rows)
+        answer: Answer = answer_of(words, self._texts([" ".join(words)], timeout)[0], self._home)
         return answer
 
     def text(self, *parts: Words, timeout: Seconds = None) -> str:
@@ -275,7 +275,7 @@ class Calculator:
         >>> list(Calculator().tab([2, 1], [1]))
         [Tableau(((None, 1), (1,))), Tableau(((None, 1), (2,)))]
         """
-        line = line_of("tab", (outer, inner) if after is None else (outer, inner, after))
+        line = " ".join(words_for("tab", (outer, inner) if after is None else (outer, inner, after)))
         seconds = self._seconds if timeout is None else _arguments.seconds(timeout)
         return own(self._listed(line, partition(inner, "inner"), seconds), self._way.check)
 

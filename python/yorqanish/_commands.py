@@ -43,8 +43,8 @@ COMMANDS: Dict[str, List[Argument]] = {
 }
 
 
-def line_of(command: str, values: Iterable[Any], rows: Any = None) -> str:
-    """The line of a call with these arguments, and with this number of variables. A tableau has the inner partition that is given before it."""
+def words_for(command: str, values: Iterable[Any], rows: Any = None) -> List[str]:
+    """The words of a call with these arguments, and with this number of variables. A tableau has the inner partition that is given before it."""
     them: List[Any] = [command] if rows is None else [command, "-r", whole(rows, "rows")]
     inner: Numbers = ()
     for (name, sort, sign), value in zip(COMMANDS[command], values):
@@ -60,7 +60,7 @@ def line_of(command: str, values: Iterable[Any], rows: Any = None) -> str:
             them.append(spoken(value, name, inner))
         else:
             them += numbers(value, name)
-    return " ".join(map(str, them))
+    return list(map(str, them))
 
 
 def words_of(line: str) -> List[str]:

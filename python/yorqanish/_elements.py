@@ -65,12 +65,12 @@ class Home:
         return self._calculator and self._calculator() or Calculator._opened(*self.arguments)
 
     def parent(self, name: str, *numbers: Any) -> Parent[Any]:
-        if name not in FORMS or len(numbers) != len(FORMS[name].numbers):
-            raise ValueError(f"{(name, *numbers)!r} is no parent")
-        counts = tuple(map(whole, numbers, FORMS[name].numbers))
-        found = self._parents.get((name, counts))
+        found = None if numbers else self._parents.get((name, ()))
         if found is None:
-            found = self._parents[name, counts] = Parent(self, name, counts)
+            if name not in FORMS or len(numbers) != len(FORMS[name].numbers):
+                raise ValueError(f"{(name, *numbers)!r} is no parent")
+            counts = tuple(map(whole, numbers, FORMS[name].numbers))
+            found = self._parents.setdefault((name, counts), Parent(self, name, counts))
         return found
 
 
@@ -254,16 +254,15 @@ class Parent(Fixed, Generic[Label]):
 
 def parent_of(home: Home, line: List[str]) -> Parent[Any]:
     """The parent of the answer to the words of a command that answers with a list of terms."""
-    name, numbers = line[0], [int(it) for it in line[1:3] if it.isdigit()]
-    if name in ("mult", "skew", "stanley"):
-        return home.parent("in_variables", int(line[2])) if line[1] == "-r" else home.parent("s")
-    if name in ("quantum", "fusion"):
-        return home.parent(f"{name}_ring", *numbers)
-    return home.parent(line[1] if name in ("expand", "plethysm") else ANSWERS[name])
+    name = ANSWERS[line[0]]
+    if line[1:2] == ["-r"]:
+        return home.parent("in_variables", int(line[2]))
+    return home.parent(name, *map(int, line[1:3])) if name in ("quantum_ring", "fusion_ring") else home.parent(name or line[1])
 
 
-# The parents of the other lists.
-ANSWERS = {"coprod": "tensor_square", "schubert": "monomials", "schubmult": "X", "dschubmult": "double_X"}
+# The parents of these lists; those of `expand` and `plethysm` are named by the next word.
+ANSWERS = {"mult": "s", "skew": "s", "stanley": "s", "coprod": "tensor_square", "schubert": "monomials", "schubmult": "X", "dschubmult": "double_X"}
+ANSWERS.update(quantum="quantum_ring", fusion="fusion_ring", expand="", plethysm="")
 
 
 def exact(value: Any) -> Number:

@@ -46,9 +46,8 @@ OTHERS: Dict[str, Callable[[str, List[str]], Any]] = {
 }
 
 
-def answer_of(line: str, text: str, home: Home) -> Any:
-    """The answer to a line: what the command's method answers, a list for `tab`, and the printed text for `-m`."""
-    words = words_of(line)
+def answer_of(words: List[str], text: str, home: Home) -> Any:
+    """The answer to the words of a line: what the command's method answers, a list for `tab`, and the printed text for `-m`."""
     if "-m" in words[1:4]:
         return text.rstrip("\n")
     return OTHERS[words[0]](text, words) if words[0] in OTHERS else Expansion._read(text, parent_of(home, words))
@@ -68,7 +67,7 @@ class Block(NamedTuple):
         """The value that the method of the line's command returns. If there is none, `refusal` is raised."""
         if self.refusal:
             raise self.refusal
-        return answer_of(self.line, self.text, home_of(self.arguments))
+        return answer_of(words_of(self.line), self.text, home_of(self.arguments))
 
     def __repr__(self) -> str:
         return f"Block(line={self.line!r}, text={self.text!r}, refusal={self.refusal!r})"
@@ -207,7 +206,7 @@ class Lanes:
                     size, at = size - (len(block.text) if block else 0), at + 1
                     yield block
                 wanted = min(MOST_AHEAD - (read - at), (1 if is_only else 2) * sum(self._sizes) - given) if size < MOST_KEPT else 0
-                is_reading = wanted > 0 and not source.is_at_end
+                is_reading = wanted > 0 and not source.is_at_end and not (is_only and given)
                 if is_reading:
                     for line in source.take(wanted):
                         if sent(line) is None:

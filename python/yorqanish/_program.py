@@ -282,6 +282,17 @@ class Batch:
                 self.end()
         raise not_calc(self.path)
 
+    def __enter__(self) -> Batch:
+        return self
+
+    def __exit__(self, kind: Any, *error: Any) -> None:
+        """After a command it waits for another one, or ends, if the command was given up."""
+        user, self.user = self.user, None
+        if user and kind is None and not user.is_over():
+            user._idle.append(self)
+        else:
+            self.end()
+
     def end(self) -> None:
         """Asks for the end of the process, for which nobody waits."""
         self.is_done = True
@@ -388,36 +399,26 @@ class Program(Way):
         self._file = tried(self._idle[0])
         self.digest = self._file.digest if self._file else None
 
-    @contextmanager
-    def _lent(self) -> Iterator[Batch]:
-        """A process that is not in use. After its command it waits for another one; if that was given up, it ends."""
+    def _taken(self) -> Batch:
+        """A process that is not in use."""
         while True:
             self.check()
             try:
                 batch: Batch = self._idle.pop()
             except IndexError:
                 batch = Batch(self.path, self._file)
-            batch.user, is_idle = self, False
+            batch.user = self
             # (who closes the way ends the processes that it uses; one that somebody has killed while nobody needed it is missed by nobody)
             if batch.is_idle() and not self.is_over():
-                break
+                return batch
             batch.end()
-        try:
-            yield batch
-            is_idle = not self.is_over()
-        finally:
-            batch.user = None
-            if is_idle:
-                self._idle.append(batch)
-            else:
-                batch.end()
 
     def blocks(self, lines: Sequence[bytes], seconds: Optional[float]) -> List[str]:
-        with self._lent() as batch:
+        with self._taken() as batch:
             return batch.exchange(lines, seconds)
 
     def listed(self, line: bytes, seconds: Optional[float]) -> Iterator[str]:
-        with self._lent() as batch:
+        with self._taken() as batch:
             yield from batch.listing(line, seconds)
 
     def close(self) -> None:
