@@ -136,8 +136,8 @@ def numbers(values: Shape, name: str) -> Numbers:
     if type(values) is tuple or type(values) is list:
         plain: Tuple[Any, ...] = tuple(values)
         for it in plain:
-            # (a small number of Python's own type needs no other look)
-            if type(it) is not int or not 0 <= it < 1 << 64:
+            # (a number of Python's own type needs no other look)
+            if type(it) is not int or it < 0:
                 break
         else:
             if len(plain) <= MOST_NUMBERS:

@@ -57,7 +57,8 @@ class Calculator:
         self._library, self._seconds = bool(library), _arguments.seconds(timeout)
         self._way: Way = _search.library(given[0]) if library or _search.IS_WINDOWS else _search.program(given[1])
         self._arguments = *given, self._way.digest, self._seconds
-        self._desk(timeout)
+        self._own = Desk(self._way, self._arguments, None)
+        self._own = self._desk(timeout)
         self._home = Home(self._arguments, self)
         for name in (*BASES, "X", "monomials"):
             setattr(self, name, self._home.parent(name))
@@ -93,23 +94,17 @@ class Calculator:
 
     def _desk(self, timeout: Seconds) -> Desk:
         """How lines are asked that may take so many seconds."""
-        seconds = self._seconds if timeout is None else _arguments.seconds(timeout)
+        if timeout is None:
+            return self._own
+        seconds = _arguments.seconds(timeout)
         if seconds is not None and self._library:
             raise ValueError("timeout: a command of the library cannot be stopped")
         return Desk(self._way, self._arguments, seconds)
 
-    def _texts(self, lines: List[str], timeout: Seconds) -> List[str]:
-        """What is printed for lines, all of them within this time. What is refused is raised."""
-        texts = self._desk(timeout).texts(lines)
-        for line, text in zip(lines, texts):
-            if text.startswith("! "):
-                raise Refusal.of(text, line)
-        return texts
-
     def _asked(self, kind: Type[Answer], command: str, *values: Any, rows: Any = None, timeout: Seconds) -> Answer:
         """The answer of a command to these arguments."""
         words = words_for(command, values, rows)
-        answer: Answer = answer_of(words, self._texts([" ".join(words)], timeout)[0], self._home)
+        answer: Answer = answer_of(words, self._desk(timeout).texts([" ".join(map(str, words))])[0], self._home)
         return answer
 
     def text(self, *parts: Words, timeout: Seconds = None) -> str:
@@ -117,7 +112,7 @@ class Calculator:
         >>> Calculator().text("coef", (3, 2, 1), "-", (2, 1), "-", (2, 1))
         '2\\n'
         """
-        return self._texts([" ".join(filter(None, map(_word, parts)))], timeout)[0]
+        return self._desk(timeout).texts([" ".join(filter(None, map(_word, parts)))])[0]
 
     def mult(self, *shapes: Shape, rows: Optional[SupportsIndex] = None, timeout: Seconds = None) -> Expansion[Partition, int]:
         """The product of two to eight Schur functions, in Schur functions; with `rows=K`, in K variables.
@@ -216,7 +211,7 @@ class Calculator:
             raise ValueError(f"target: {target!r} is not m, e, h, p or s")
         head, parent = f"{command} {text_of(target)} ", self._home.parent(text_of(target))
         lines = [f"{head}{it} {inner}".rstrip(" ") for it in self._expressions(expression, name, LONGEST - len(head) - len(inner) - 1)]
-        first, *others = [Expansion._read(it, parent) for it in self._texts(lines, timeout)]
+        first, *others = [Expansion._read(it, parent) for it in self._desk(timeout).texts(lines)]
         return sum(others, first)
 
     def _expressions(self, value: Any, name: str, most: Optional[int]) -> List[str]:
@@ -275,7 +270,7 @@ class Calculator:
         >>> list(Calculator().tab([2, 1], [1]))
         [Tableau(((None, 1), (1,))), Tableau(((None, 1), (2,)))]
         """
-        line = " ".join(words_for("tab", (outer, inner) if after is None else (outer, inner, after)))
+        line = " ".join(map(str, words_for("tab", (outer, inner) if after is None else (outer, inner, after))))
         seconds = self._seconds if timeout is None else _arguments.seconds(timeout)
         return own(self._listed(line, partition(inner, "inner"), seconds), self._way.check)
 
@@ -354,7 +349,8 @@ class Calculator:
         if getattr(method, "__self__", None) is not self:
             raise TypeError(f"submit: {method!r} is not a method of this Calculator")
         calculator = object.__new__(Calculator)
-        calculator.__dict__.update(self.__dict__, _way=self._way.apart(True))
+        way = self._way.apart(True)
+        calculator.__dict__.update(self.__dict__, _way=way, _own=self._own._replace(way=way))
         return Task(partial(getattr(calculator, method.__name__), *arguments, **options), calculator._way.close)
 
 

@@ -43,8 +43,9 @@ COMMANDS: Dict[str, List[Argument]] = {
 }
 
 
-def words_for(command: str, values: Iterable[Any], rows: Any = None) -> List[str]:
-    """The words of a call with these arguments, and with this number of variables. A tableau has the inner partition that is given before it."""
+def words_for(command: str, values: Iterable[Any], rows: Any = None) -> List[Any]:
+    """The words and numbers of a call with these arguments, and with this number of variables. A tableau has the inner partition that is given
+    before it."""
     them: List[Any] = [command] if rows is None else [command, "-r", whole(rows, "rows")]
     inner: Numbers = ()
     for (name, sort, sign), value in zip(COMMANDS[command], values):
@@ -60,7 +61,7 @@ def words_for(command: str, values: Iterable[Any], rows: Any = None) -> List[str
             them.append(spoken(value, name, inner))
         else:
             them += numbers(value, name)
-    return list(map(str, them))
+    return them
 
 
 def words_of(line: str) -> List[str]:

@@ -230,7 +230,7 @@ class Parent(Fixed, Generic[Label]):
 
     def _summed(self, weights: Dict[Tuple[Numbers, Numbers], Dict[Any, Number]]) -> Dict[Any, Number]:
         """The sum of products. Their lines are counted before they are read, since most of them come again and again."""
-        texts = self.home()._texts([self._line(*pair) for pair in weights], None)
+        texts = self.home()._desk(None).texts([self._line(*pair) for pair in weights])
         together: Dict[Any, List[str]] = {}
         for text, of_pair in zip(texts, weights.values()):
             for it in of_pair.items():
@@ -252,10 +252,10 @@ class Parent(Fixed, Generic[Label]):
         return f"{command} {atom('m', left)}*{atom('m', right)}" if self.name == "m" else " ".join(map(str, (command, *left, "-", *right)))
 
 
-def parent_of(home: Home, line: List[str]) -> Parent[Any]:
+def parent_of(home: Home, line: List[Any]) -> Parent[Any]:
     """The parent of the answer to the words of a command that answers with a list of terms."""
     name = ANSWERS[line[0]]
-    if line[1:2] == ["-r"]:
+    if len(line) > 1 and line[1] == "-r":
         return home.parent("in_variables", int(line[2]))
     return home.parent(name, *map(int, line[1:3])) if name in ("quantum_ring", "fusion_ring") else home.parent(name or line[1])
 

@@ -46,11 +46,12 @@ OTHERS: Dict[str, Callable[[str, List[str]], Any]] = {
 }
 
 
-def answer_of(words: List[str], text: str, home: Home) -> Any:
+def answer_of(words: List[Any], text: str, home: Home) -> Any:
     """The answer to the words of a line: what the command's method answers, a list for `tab`, and the printed text for `-m`."""
     if "-m" in words[1:4]:
         return text.rstrip("\n")
-    return OTHERS[words[0]](text, words) if words[0] in OTHERS else Expansion._read(text, parent_of(home, words))
+    read = OTHERS.get(words[0])
+    return read(text, words) if read else Expansion._read(text, parent_of(home, words))
 
 
 class Block(NamedTuple):
@@ -84,21 +85,21 @@ class Desk(NamedTuple):
         return TimeoutError(f"no answer within {self.seconds} s, to {line if len(line) <= 160 else line[:160] + ' ..'}")
 
     def texts(self, lines: List[str]) -> List[str]:
-        """What is printed for lines, all of them within the time. (What a batch passes over is no command.)"""
+        """What is printed for lines, all of them within the time; what is refused is raised. (What a batch passes over is no command.)"""
         try:
-            return self.way.blocks([sent(it) or NO_COMMAND for it in lines], self.seconds) if lines else []
+            texts = self.way.blocks([sent(it) or NO_COMMAND for it in lines], self.seconds) if lines else []
         except TimeoutError:
             raise self.late(lines[0]) from None
-
-    def _block(self, line: str, text: str) -> Block:
-        is_refused = text.startswith("! ")
-        return Block(line, "" if is_refused else text, Refusal.of(text, line) if is_refused else None, self.arguments)
+        for line, text in zip(lines, texts):
+            if text[:1] == "!":
+                raise Refusal.of(text, line)
+        return texts
 
     def one(self, line: str) -> Block:
         """The outcome of a line."""
         try:
-            return self._block(line, *self.texts([line]))
-        except (TimeoutError, MemoryError, Ended) as error:
+            return Block(line, self.texts([line])[0], None, self.arguments)
+        except (Refusal, TimeoutError, MemoryError, Ended) as error:
             return Block(line, "", error, self.arguments)
 
     def all(self, lines: List[str], most: Optional[float]) -> List[Block]:
@@ -106,7 +107,9 @@ class Desk(NamedTuple):
         if self.seconds is None and len(lines) > 1:
             # (or each line by itself, to see whose it is)
             with suppress(MemoryError, Ended):
-                return list(map(self._block, lines, self._replace(seconds=most).texts(lines)))
+                texts = self.way.blocks([sent(it) or NO_COMMAND for it in lines], most)
+                refusals = (Refusal.of(text, line) if text[:1] == "!" else None for line, text in zip(lines, texts))
+                return [Block(line, "" if refusal else text, refusal, self.arguments) for line, text, refusal in zip(lines, texts, refusals)]
         return list(map(self.one, lines))
 
 

@@ -19,7 +19,7 @@ from io import FileIO
 from queue import Empty, SimpleQueue
 from typing import Any, Callable, Dict, Iterable, Iterator, List, Optional, Sequence, Tuple
 
-from ._ways import BREAK, END, LAST, NO_MEMORY, PATIENCE, QUESTIONS, Ended, NoCalculator, Way, not_calc, spawn
+from ._ways import BREAK, END, ENDED, LAST, NO_MEMORY, PATIENCE, QUESTIONS, Ended, NoCalculator, Way, not_calc, spawn
 
 # The processes that this one has started, each with whoever reads from it. As its standard error a process has the writing end of the pipe that ties it
 # to this one. A process made by fork closes its copies of their pipes and forgets them.
@@ -240,6 +240,15 @@ atexit.register(end_all, True)
 os.register_at_fork(before=pause, after_in_parent=lambda: STARTS.release(), after_in_child=forget_all)
 
 
+def deadline_in(seconds: Optional[float]) -> Optional[float]:
+    return None if seconds is None else time.monotonic() + seconds
+
+
+def input_of(lines: Iterable[bytes]) -> memoryview:
+    """Lines, and one of a known answer after them: where that answer is, theirs have ended."""
+    return memoryview(b"\n".join((*lines, LAST, b"")))
+
+
 class Batch:
     """A running `calc batch`, whose answers are read as they come, by the process that has started it. It ends with the last reference to this,
     and at the end of Python."""
@@ -263,14 +272,13 @@ class Batch:
 
     def _try(self) -> None:
         """The first exchange, by which another program of this name is found out, or another version."""
-        wanted, got = BREAK.join((*QUESTIONS.values(), END)), b""
+        wanted, got, data, until = BREAK.join((*QUESTIONS.values(), END)), b"", input_of(QUESTIONS), deadline_in(PATIENCE)
         try:
-            for came in self._chunks(QUESTIONS, PATIENCE):
-                got += came
+            while wanted.startswith(got):
                 if got == wanted:
                     return
-                if not wanted.startswith(got):
-                    break
+                came, data = self._read(data, until)
+                got += came
         except TimeoutError:
             pass
         except Ended:
@@ -303,33 +311,29 @@ class Batch:
         """Whether it waits for a line: nothing comes from it, not even its end. (Once it has ended, the numbers of its pipes may be those of others.)"""
         return self.process.returncode is None and not self._coming.poll(0)
 
-    def _chunks(self, lines: Iterable[bytes], seconds: Optional[float], is_each: bool = False) -> Iterator[bytes]:
-        """What comes for lines, and for one of a known answer after them: where that answer is, theirs have ended. It comes within so many
-        seconds, or else each part does."""
-        data, until = memoryview(b"\n".join((*lines, LAST, b""))), None if seconds is None else time.monotonic() + seconds
-        while True:
-            data = self._written(data)
-            while data or until is not None:
-                left = LONGEST_WAIT if until is None else min(max(0.0, until - time.monotonic()), LONGEST_WAIT)
-                ready = dict((self._both if data else self._coming).poll(left * 1000))
-                if self.out in ready:
-                    break
-                if ready:
-                    data = self._written(data)
-                elif until is not None and time.monotonic() >= until:
-                    raise TimeoutError
-            came = os.read(self.out, 1 << 18)
-            if self._owner != os.getpid():
-                raise NoCalculator("this answer is read by the process that was forked, and not by its copy")
-            if not came:
-                raise self._gone()
-            yield came
-            until = time.monotonic() + seconds if is_each and seconds is not None else until
+    def _read(self, data: memoryview, until: Optional[float]) -> Tuple[bytes, memoryview]:
+        """What has come, and what is left to be written. It waits until something comes, and until this time at most."""
+        data = self._written(data) if data else data
+        while data or until is not None:
+            left = LONGEST_WAIT if until is None else min(max(0.0, until - time.monotonic()), LONGEST_WAIT)
+            ready = dict((self._both if data else self._coming).poll(left * 1000))
+            if self.out in ready:
+                break
+            if ready:
+                data = self._written(data)
+            elif until is not None and time.monotonic() >= until:
+                raise TimeoutError
+        came = os.read(self.out, 1 << 18)
+        if self._owner != os.getpid():
+            raise NoCalculator("this answer is read by the process that was forked, and not by its copy")
+        if not came:
+            raise self._gone()
+        return came, data
 
     def _written(self, data: memoryview) -> memoryview:
         """Writes what the pipe takes; what is left. Of a process that has gone nothing is left: its output says so."""
         try:
-            return data[os.write(self.into, data) :] if data else data
+            return data[os.write(self.into, data) :]
         except BlockingIOError:
             return data
         except BrokenPipeError:
@@ -347,11 +351,12 @@ class Batch:
 
     def exchange(self, lines: Sequence[bytes], seconds: Optional[float]) -> List[str]:
         """The blocks of lines."""
-        got = bytearray()
-        for came in self._chunks(lines, seconds):
+        until = deadline_in(seconds)
+        came, data = self._read(input_of(lines), until)
+        got = bytearray(came)
+        while not (got.endswith(ENDED) and got.count(BREAK) > len(lines)):
+            came, data = self._read(data, until)
             got += came
-            if got.endswith(BREAK + END) and got.count(BREAK) > len(lines):
-                break
         first, *texts, _ = got.decode("ascii").split("--\n")
         if first or len(texts) != len(lines):
             raise not_calc(self.path)
@@ -360,8 +365,9 @@ class Batch:
     def listing(self, line: bytes, seconds: Optional[float]) -> Iterator[str]:
         """The lines of the answer to a line, each as soon as it is there and within so many seconds."""
         # (one break is before the answer, and one after it)
-        breaks, rest, last = 0, b"", b""
-        for came in self._chunks([line], seconds, True):
+        breaks, rest, last, data = 0, b"", b"", input_of([line])
+        while breaks < 2 or len(last + rest) < len(END):
+            came, data = self._read(data, deadline_in(seconds))
             *lines, rest = (rest + came).split(b"\n")
             for it in lines:
                 if it + b"\n" == BREAK:
@@ -370,8 +376,6 @@ class Batch:
                     yield it.decode("ascii")
                 else:
                     last += it + b"\n"
-            if breaks >= 2 and len(last + rest) >= len(END):
-                break
         if last + rest != END or breaks != 2:
             raise not_calc(self.path)
 

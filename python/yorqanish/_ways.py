@@ -36,7 +36,7 @@ QUESTIONS = {
     b"growth 2 1": b"() () ()\n() () (1)\n() (1) (1,1)\n",
 }
 # The line that is asked after others: where its known answer begins, theirs have ended. What is between two answers.
-LAST, END, BREAK = b"rsk", b"P .\nQ .\n", b"--\n"
+LAST, END, BREAK, ENDED = b"rsk", b"P .\nQ .\n", b"--\n", b"--\nP .\nQ .\n"
 
 # What is sent for a line that a batch passes over, where it is to be refused: it is refused at its beginning.
 NO_COMMAND = b"!"
