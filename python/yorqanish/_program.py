@@ -431,6 +431,7 @@ class Program(Way):
             self._idle.pop().end()
         # (their pipes are closed by the threads that read from them)
         for it in filter(None, [reader() for reader in list(STARTED.values())]):
-            if it.user and self in (it.user, it.user._whole):
+            user = it.user
+            if user and self in (user, user._whole):
                 ASKED.put(partial(kill, it.process))
                 serve()
