@@ -223,16 +223,16 @@ def forget_all() -> None:
     global ASKED, STARTS
     ASKED, STARTS = SimpleQueue(), threading.RLock()
     SERVING.clear()
-    pipes = [it.fileno() for process in STARTED for it in pipes_of(process)]
+    pipes = [it for process in STARTED for it in pipes_of(process)]
     for process in STARTED:
         process.returncode = 0
     STARTED.clear()
-    for number in pipes:
+    for pipe in pipes:
         # (one after the other, since there may be no other free number)
-        os.close(number)
+        os.close(pipe.fileno())
         nothing = os.open(os.devnull, os.O_RDWR)
-        if nothing != number:
-            os.dup2(nothing, number, inheritable=False)
+        if nothing != pipe.fileno():
+            os.dup2(nothing, pipe.fileno(), inheritable=False)
             os.close(nothing)
 
 

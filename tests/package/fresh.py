@@ -93,6 +93,18 @@ def test_a_fork_without_a_free_descriptor():
     same((os.waitpid(child, 0)[1], calc.coef([2], [1], [1]), calc._way._idle[0].process), (0, 1, own))
 
 
+def test_a_fork_before_a_process_is_ended():
+    """Whose reader is gone: in the child its pipes are let go of once. (A second time was an error, after which the child kept those of all others.)"""
+    script = (
+        "import os, time\nfrom yorqanish import Calculator, _program\ncalc, other = Calculator(), Calculator()\n_program.ASKED.put(None)\n"
+        "while _program.SERVING: time.sleep(0.001)\n_program.serve = lambda: None\ncalc._way._idle.clear()\nassert len(_program.STARTED) == 2\n"
+        "child = os.fork()\nassert child or all(os.fstat(it.fileno()).st_rdev for it in _program.pipes_of(other._way._idle[0].process))\n"
+        "os._exit(0 if not child else os.waitpid(child, 0)[1] >> 8)"
+    )
+    done = subprocess.run([sys.executable, "-c", script], capture_output=True, text=True)
+    same((done.stderr, done.returncode), ("", 0))
+
+
 def test_a_script_that_runs_the_program():
     """The processes that a script started end with it: at a timeout, and when Python is killed."""
     with tempfile.TemporaryDirectory() as room:
