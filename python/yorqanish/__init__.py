@@ -10,17 +10,13 @@ raises a `Refusal`.
 from pathlib import Path as _Path
 
 # (each under its own name, for users who import it by that name and for their types)
-from ._answers import Grid as Grid
 from ._arguments import Exponents as Exponents, Partition as Partition, Permutation as Permutation
-from ._batch import Block as Block
 from ._calculator import Calculator
-from ._expansion import Expansion
+from ._commands import LiteralRefusal, RangeRefusal, Refusal, ShapeRefusal, SyntaxRefusal, TooLarge
+from ._elements import Expansion, Parent as Parent
 from ._kinds import Number as Number
-from ._parents import Parent as Parent
-from ._pictures import Picture as Picture, diagram as diagram, rothe_diagram as rothe_diagram
-from ._refusals import LiteralRefusal, RangeRefusal, Refusal, ShapeRefusal, SyntaxRefusal, TooLarge
-from ._tableaux import Pair as Pair, Tableau as Tableau
-from ._tasks import Task as Task
+from ._lines import Block as Block, Task as Task
+from ._tableaux import Grid as Grid, Pair as Pair, Picture as Picture, Tableau as Tableau, diagram as diagram, rothe_diagram as rothe_diagram
 from ._ways import Ended as Ended, NoCalculator
 
 # What `from yorqanish import *` brings: no name that Sage has for something of its own.

@@ -1,4 +1,5 @@
 """`python -m yorqanish WORDS` runs the program that a Calculator would take, with these words."""
+import os
 import subprocess
 import sys
 
@@ -13,4 +14,4 @@ if __name__ == "__main__":
     except NoCalculator as error:
         sys.exit(f"yorqanish: {error}")
     found.close()
-    found.become(sys.argv[1:])
+    os.execv(found.path, [found.path, *sys.argv[1:]])

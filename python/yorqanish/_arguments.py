@@ -8,7 +8,7 @@ from collections.abc import Sequence as AnySequence
 from fractions import Fraction
 from numbers import Integral, Rational
 from operator import index
-from typing import Any, Iterable, List, NoReturn, Optional, Protocol, Sequence, Set, SupportsFloat, SupportsIndex, Tuple, TypeVar, Union, cast
+from typing import Any, List, NoReturn, Optional, Protocol, Sequence, Set, SupportsFloat, SupportsIndex, Tuple, TypeVar, Union, cast
 
 Numbers = Tuple[int, ...]
 Partition = Numbers
@@ -47,8 +47,8 @@ TABLES = {"numpy.ndarray", "sage.combinat.tableau.Tableau"}
 # Sequences of characters are no lists of numbers, even if they are empty.
 TEXTS = (str, bytes, bytearray, memoryview, UserString)
 
-# More numbers or digits than a line of `calc` holds.
-MOST_NUMBERS, MOST_BITS = 4096, 12000
+# More numbers than a line of `calc` holds.
+MOST_NUMBERS = 4096
 
 
 class Fixed:
@@ -56,19 +56,15 @@ class Fixed:
 
     __slots__ = ()
 
-    def copy(self: Self) -> Self:
+    def copy(self: Self, memo: Any = None) -> Self:
         return self
 
-    def __deepcopy__(self: Self, memo: Any) -> Self:
-        return self
+    __copy__ = __deepcopy__ = copy
 
-    __copy__ = copy
+    def __setattr__(self, name: str, *value: object) -> NoReturn:
+        raise AttributeError(f"{type(self).__name__} does not change, and neither does its {name}")
 
-    def __setattr__(self, name: str, value: object) -> NoReturn:
-        raise AttributeError(f"{type(self).__name__} does not change: {name} cannot be set")
-
-    def __delattr__(self, name: str) -> NoReturn:
-        raise AttributeError(f"{type(self).__name__} does not change: {name} cannot be deleted")
+    __delattr__ = __setattr__
 
 
 def integer(value: object) -> Optional[int]:
@@ -104,20 +100,18 @@ def whole(value: SupportsIndex, name: str) -> int:
         raise TypeError(f"{name}: {value!r} is not an integer")
     if number < 0:
         raise ValueError(f"{name}: {number} is negative")
-    if number.bit_length() > MOST_BITS:
-        raise ValueError(f"{name}: a number of {number.bit_length()} bits is too long to be sent")
     return number
 
 
-def seconds(value: Optional[SupportsFloat], name: str = "timeout") -> Optional[float]:
+def seconds(value: Optional[SupportsFloat]) -> Optional[float]:
     """A time in seconds; nothing, and what is infinite, is no limit."""
     if value is None:
         return None
     if isinstance(value, TEXTS) or type(value).__name__.startswith(("bool", "complex")) or not hasattr(value, "__float__"):
-        raise TypeError(f"{name}: {value!r} is not a number of seconds")
+        raise TypeError(f"timeout: {value!r} is not a number of seconds")
     number = float(value)
     if not number >= 0:
-        raise ValueError(f"{name}: {value!r} is not a number of seconds that is at least 0")
+        raise ValueError(f"timeout: {value!r} is not a number of seconds that is at least 0")
     return None if math.isinf(number) else number
 
 
@@ -142,8 +136,8 @@ def numbers(values: Shape, name: str) -> Numbers:
     if type(values) is tuple or type(values) is list:
         plain: Tuple[Any, ...] = tuple(values)
         for it in plain:
-            # (a small number of Python's own type needs no other look)
-            if type(it) is not int or not 0 <= it < 1 << 64:
+            # (a number of Python's own type needs no other look)
+            if type(it) is not int or it < 0:
                 break
         else:
             if len(plain) <= MOST_NUMBERS:
@@ -191,22 +185,3 @@ def spoken(rows: Rows, name: str, inner: Numbers = ()) -> str:
 def text_of(value: str) -> str:
     """The characters of a string, also of a type that is derived from `str` and shows itself in another way."""
     return value if type(value) is str else str.__str__(value)
-
-
-def words(*parts: Union[str, int, Numbers]) -> str:
-    """A line of words: texts and numbers as they are, lists number by number."""
-    them: List[Union[str, int]] = []
-    for it in parts:
-        if isinstance(it, tuple):
-            them += it
-        elif it != "":
-            them.append(it)
-    return " ".join(map(str, them))
-
-
-def factors(shapes: Iterable[Shape]) -> List[Union[str, Numbers]]:
-    """The factors of a product with `-` between them."""
-    parts: List[Union[str, Numbers]] = []
-    for i, shape in enumerate(shapes, 1):
-        parts += "-", partition(shape, f"factor {i}")
-    return parts[1:]

@@ -2,32 +2,24 @@
 from __future__ import annotations
 
 import os
-import time
 from functools import partial
-from typing import Any, Callable, Dict, Iterable, Iterator, List, Optional, SupportsFloat, SupportsIndex, Tuple, TypeVar, Union, cast
+from typing import Any, Callable, Dict, Iterable, Iterator, List, Optional, SupportsFloat, SupportsIndex, Tuple, Type, TypeVar, Union, cast
 
-from . import _arguments, _batch
-from ._answers import Grid, grid_of
-from ._arguments import Exponents, Numbers, Partition, Permutation, Rows, Shape
-from ._arguments import factors, numbers, partition, spoken, text_of, whole, without_zeros, words
-from ._batch import Block
-from ._expansion import Expansion
+from . import _arguments, _search
+from ._arguments import Exponents, Numbers, Partition, Permutation, Rows, Shape, numbers, partition, text_of, whole, without_zeros
+from ._commands import Refusal, words_for
+from ._elements import BASES, Expansion, Home, Parent
 from ._kinds import Number, atom
-from ._parents import BASES, Home, Parent
-from ._refusals import Refusal
+from ._lines import Block, Desk, Lanes, Result, Source, Task, answer_of, blocks, own, with_bar
 from ._sage import basis_of
-from ._search import way
-from ._tableaux import Pair, Tableau, pair_of, tableau_of
-from ._tasks import Task
-from ._ways import LONGEST, NO_COMMAND, Way, sent
+from ._tableaux import Grid, Pair, Tableau, tableau_of
+from ._ways import LONGEST, NoCalculator, Way
 
 Words = Union[str, SupportsIndex, Shape]
 Seconds = Optional[SupportsFloat]
-Result = TypeVar("Result")
+Answer = TypeVar("Answer")
 # An expression: its text, an element of a basis of symmetric functions, or one of Sage's.
 Expression = Union[str, Expansion[Partition, Any]]
-# A part of a long expression has at most so many bytes, so that a line has room for the other words.
-MOST_OF_EXPRESSION = 4000
 # The largest degree of an expression that is expanded in s.
 LARGEST_DEGREE = 20
 
@@ -57,16 +49,16 @@ class Calculator:
     _kept: Dict[Any, Calculator] = {}
 
     def __init__(self, *, program: Optional[str] = None, library: Union[bool, str, None] = None, timeout: Seconds = None) -> None:
-        self._open(program, library, timeout)
-
-    def _open(self, program: Any, library: Any, timeout: Seconds, digest: Optional[str] = None) -> None:
-        program, library = _path(program), bool(library) if library in (True, False, None) else _path(library)
-        if library and program:
+        given: List[Any] = [library, program]
+        if all(given):
             raise ValueError("a Calculator has either a program or the library")
-        self._library, self._seconds = bool(library), None
-        self._seconds = self._limit(timeout)
-        self._way: Way = way(library, program, digest)
-        self._arguments = library, program, getattr(self._way, "digest", None), self._seconds
+        # (a path means the same file in another folder)
+        given = [it if it in (True, False, None) else os.path.abspath(it) for it in given]
+        self._library, self._seconds = bool(library), _arguments.seconds(timeout)
+        self._way: Way = _search.library(given[0]) if library or _search.IS_WINDOWS else _search.program(given[1])
+        self._arguments = *given, self._way.digest, self._seconds
+        self._own = Desk(self._way, self._arguments, None)
+        self._own = self._desk(timeout)
         self._home = Home(self._arguments, self)
         for name in (*BASES, "X", "monomials"):
             setattr(self, name, self._home.parent(name))
@@ -77,8 +69,9 @@ class Calculator:
         kept = cls._kept.get(arguments)
         if kept is None or kept._way.is_over():
             library, program, digest, seconds = arguments
-            kept = cls.__new__(cls)
-            kept._open(program, library, seconds, digest)
+            kept = cls(program=program, library=library, timeout=seconds)
+            if digest and kept._way.digest and kept._way.digest != digest:
+                raise NoCalculator(f"{kept._way.path} is not the program that the Calculator had where it was made")
             cls._kept[arguments] = kept
         return kept
 
@@ -99,87 +92,55 @@ class Calculator:
         """Ends the program, even if other threads are using it. A call that comes later is refused."""
         self._way.close()
 
-    def _limit(self, timeout: Seconds) -> Optional[float]:
-        """The seconds that a command may take."""
-        seconds = self._seconds if timeout is None else _arguments.seconds(timeout)
+    def _desk(self, timeout: Seconds) -> Desk:
+        """How lines are asked that may take so many seconds."""
+        if timeout is None:
+            return self._own
+        seconds = _arguments.seconds(timeout)
         if seconds is not None and self._library:
             raise ValueError("timeout: a command of the library cannot be stopped")
-        return seconds
+        return Desk(self._way, self._arguments, seconds)
 
-    def _text(self, line: str, timeout: Seconds) -> str:
-        """The text of a line. What is refused is raised."""
-        seconds = self._seconds if timeout is None else self._limit(timeout)
-        try:
-            text = self._way.answer(sent(line) or NO_COMMAND, seconds)
-        except TimeoutError:
-            raise _batch.late(line, seconds) from None
-        if text.startswith("! "):
-            raise Refusal.of(text, line)
-        return text
-
-    def _texts(self, lines: List[str], timeout: Seconds) -> List[str]:
-        """The texts of lines, all of them within this time. What is refused is raised."""
-        seconds, datas = self._limit(timeout), [sent(it) or NO_COMMAND for it in lines]
-        until = None if seconds is None else time.monotonic() + seconds
-        if len(lines) == 1 or any(len(it) > LONGEST for it in datas):
-            return [self._text(it, None if until is None else max(0.0, until - time.monotonic())) for it in lines]
-        try:
-            texts = self._way.blocks(datas, seconds) if datas else []
-        except TimeoutError:
-            raise _batch.late(lines[0], seconds) from None
-        for line, text in zip(lines, texts):
-            if text.startswith("! "):
-                raise Refusal.of(text, line)
-        return texts
-
-    def _expansion(self, timeout: Seconds, parent: Parent[Any], *parts: Union[str, int, Numbers]) -> Expansion[Any, Any]:
-        """The answer of a command that is a list of terms."""
-        return Expansion._read(self._text(words(*parts), timeout), parent)
-
-    def _schur(self, rows: Optional[SupportsIndex]) -> Tuple[Parent[Partition], str]:
-        """The parent of Schur functions with at most so many rows, and the words that limit their number."""
-        if rows is None:
-            return self.s, ""
-        count = whole(rows, "rows")
-        return self._home.parent("in_variables", count), f"-r {count}"
+    def _asked(self, kind: Type[Answer], command: str, *values: Any, rows: Any = None, timeout: Seconds) -> Answer:
+        """The answer of a command to these arguments."""
+        words = words_for(command, values, rows)
+        answer: Answer = answer_of(words, self._desk(timeout).texts([" ".join(map(str, words))])[0], self._home)
+        return answer
 
     def text(self, *parts: Words, timeout: Seconds = None) -> str:
         """The text that `calc` prints for these arguments: strings, numbers and shapes. An error of `calc` is raised.
         >>> Calculator().text("coef", (3, 2, 1), "-", (2, 1), "-", (2, 1))
         '2\\n'
         """
-        return self._text(words(*(_word(it) for it in parts)), timeout)
+        return self._desk(timeout).texts([" ".join(filter(None, map(_word, parts)))])[0]
 
     def mult(self, *shapes: Shape, rows: Optional[SupportsIndex] = None, timeout: Seconds = None) -> Expansion[Partition, int]:
         """The product of two to eight Schur functions, in Schur functions; with `rows=K`, in K variables.
         >>> Calculator().mult([2, 1], [2, 1], rows=2)
         Expansion(calc.s.in_variables(2), {(4, 2): 1, (3, 3): 1})
         """
-        parent, most = self._schur(rows)
-        return self._expansion(timeout, parent, "mult", most, *factors(shapes))
+        return self._asked(Expansion, "mult", *shapes, rows=rows, timeout=timeout)
 
     def skew(self, outer: Shape, inner: Shape, *, rows: Optional[SupportsIndex] = None, timeout: Seconds = None) -> Expansion[Partition, int]:
         """The skew Schur function of outer/inner, in Schur functions; with `rows=K`, in K variables.
         >>> Calculator().skew([2, 1], [1])
         Expansion(calc.s, {(2,): 1, (1, 1): 1})
         """
-        parent, most = self._schur(rows)
-        return self._expansion(timeout, parent, "skew", most, partition(outer, "outer"), "/", partition(inner, "inner"))
+        return self._asked(Expansion, "skew", outer, inner, rows=rows, timeout=timeout)
 
     def coef(self, outer: Shape, left: Shape, right: Shape, *, timeout: Seconds = None) -> int:
         """A Littlewood-Richardson coefficient: that of the Schur function of `outer` in the product of those of `left` and `right`.
         >>> Calculator().coef([3, 2, 1], [2, 1], [2, 1])
         2
         """
-        shapes = partition(outer, "outer"), "-", partition(left, "left"), "-", partition(right, "right")
-        return int(self._text(words("coef", *shapes), timeout))
+        return self._asked(int, "coef", outer, left, right, timeout=timeout)
 
     def coprod(self, shape: Shape, *, timeout: Seconds = None) -> Expansion[Tuple[Partition, Partition], int]:
         """The coproduct of a Schur function. Labels are pairs of partitions.
         >>> Calculator().coprod([1])
         Expansion(calc.s.tensor_square(), {((1,), ()): 1, ((), (1,)): 1})
         """
-        return self._expansion(timeout, self.s.tensor_square(), "coprod", partition(shape, "shape"))
+        return self._asked(Expansion, "coprod", shape, timeout=timeout)
 
     def quantum(self, rows: SupportsIndex, cols: SupportsIndex, *shapes: Shape, timeout: Seconds = None) -> Expansion[Tuple[int, Partition], int]:
         """The product of two to eight classes in the quantum cohomology of the Grassmannian Gr(rows, rows + cols). Labels are
@@ -187,30 +148,28 @@ class Calculator:
         >>> Calculator().quantum(2, 2, [1], [2, 1])
         Expansion(calc.quantum_ring(2, 2), {(0, (2, 2)): 1, (1, ()): 1})
         """
-        ring = self.quantum_ring(rows, cols)
-        return self._expansion(timeout, ring, "quantum", ring.numbers, *factors(shapes))
+        return self._asked(Expansion, "quantum", rows, cols, *shapes, timeout=timeout)
 
     def fusion(self, rows: SupportsIndex, level: SupportsIndex, *shapes: Shape, timeout: Seconds = None) -> Expansion[Partition, int]:
         """The fusion product of two to eight factors for su(rows) at this level. Columns of length `rows` are not removed.
         >>> Calculator().fusion(2, 1, [1], [1])
         Expansion(calc.fusion_ring(2, 1), {(1, 1): 1})
         """
-        ring = self.fusion_ring(rows, level)
-        return self._expansion(timeout, ring, "fusion", ring.numbers, *factors(shapes))
+        return self._asked(Expansion, "fusion", rows, level, *shapes, timeout=timeout)
 
     def schubert(self, perm: Shape, *, timeout: Seconds = None) -> Expansion[Exponents, int]:
         """The Schubert polynomial of a permutation. Labels are the exponents of monomials.
         >>> Calculator().schubert([1, 3, 2])
         Expansion(calc.monomials, {(1,): 1, (0, 1): 1})
         """
-        return self._expansion(timeout, self.monomials, "schubert", numbers(perm, "perm"))
+        return self._asked(Expansion, "schubert", perm, timeout=timeout)
 
     def schubmult(self, left: Shape, right: Shape, *, timeout: Seconds = None) -> Expansion[Permutation, int]:
         """The product of two Schubert polynomials, in Schubert polynomials.
         >>> Calculator().schubmult([2, 1], [2, 1])
         Expansion(calc.X, {(3, 1, 2): 1})
         """
-        return self._expansion(timeout, self.X, "schubmult", numbers(left, "left"), "-", numbers(right, "right"))
+        return self._asked(Expansion, "schubmult", left, right, timeout=timeout)
 
     def dschubmult(self, left: Shape, right: Shape, *, timeout: Seconds = None) -> Expansion[Tuple[Permutation, Exponents], int]:
         """The product of two double Schubert polynomials, in double Schubert polynomials. Labels are pairs of a permutation and the
@@ -218,15 +177,14 @@ class Calculator:
         >>> Calculator().dschubmult([1], [2, 1])
         Expansion(calc.schubert_ring(double=True), {((2, 1), ()): 1})
         """
-        return self._expansion(timeout, self.schubert_ring(double=True), "dschubmult", numbers(left, "left"), "-", numbers(right, "right"))
+        return self._asked(Expansion, "dschubmult", left, right, timeout=timeout)
 
     def stanley(self, perm: Shape, rows: SupportsIndex, *, timeout: Seconds = None) -> Expansion[Partition, int]:
         """The Stanley symmetric function of a permutation in K variables, where K is `rows`, in Schur functions.
         >>> Calculator().stanley([2, 1, 4, 3], rows=2)
         Expansion(calc.s.in_variables(2), {(2,): 1, (1, 1): 1})
         """
-        parent, most = self._schur(rows)
-        return self._expansion(timeout, parent, "stanley", most, numbers(perm, "perm"))
+        return self._asked(Expansion, "stanley", perm, rows=whole(rows, "rows"), timeout=timeout)
 
     def expand(self, target: str, expression: Expression, *, timeout: Seconds = None) -> Expansion[Partition, Number]:
         """An expression in the basis `target`: m, e, h, p or s. The expression is a string without blanks, or an element of one of these bases, or of
@@ -237,7 +195,7 @@ class Calculator:
         >>> calc.expand("h", calc.mult([1], [1]))
         Expansion(calc.h, {(1, 1): 1})
         """
-        return self._sum(("expand", _basis(target)), expression, "expression", "", target, timeout)
+        return self._sum("expand", target, expression, "expression", "", timeout)
 
     def plethysm(self, target: str, outer: Expression, inner: Expression, *, timeout: Seconds = None) -> Expansion[Partition, Number]:
         """The plethysm outer[inner] of two expressions, in the basis `target`: the monomials of `inner` are substituted for the variables
@@ -245,14 +203,15 @@ class Calculator:
         >>> Calculator().plethysm("s", "h[2]", "h[2]")
         Expansion(calc.s, {(4,): 1, (2, 2): 1})
         """
-        rest = " ".join(self._expressions(inner, "inner", None))
-        return self._sum(("plethysm", _basis(target)), outer, "outer", rest, target, timeout)
+        return self._sum("plethysm", target, outer, "outer", self._expressions(inner, "inner", None)[0], timeout)
 
-    def _sum(self, command: Tuple[str, str], expression: Any, name: str, rest: str, target: str, timeout: Any) -> Expansion[Partition, Number]:
+    def _sum(self, command: str, target: str, expression: Any, name: str, inner: str, timeout: Any) -> Expansion[Partition, Number]:
         """The answer of a command that is linear in an expression: if that is too long for a line, the sum of those to its parts."""
-        parent = self._home.parent(text_of(target))
-        lines = [words(*command, it, rest) for it in self._expressions(expression, name, MOST_OF_EXPRESSION)]
-        first, *others = [Expansion._read(it, parent) for it in self._texts(lines, timeout)]
+        if not isinstance(target, str) or target not in BASES:
+            raise ValueError(f"target: {target!r} is not m, e, h, p or s")
+        head, parent = f"{command} {text_of(target)} ", self._home.parent(text_of(target))
+        lines = [f"{head}{it} {inner}".rstrip(" ") for it in self._expressions(expression, name, LONGEST - len(head) - len(inner) - 1)]
+        first, *others = [Expansion._read(it, parent) for it in self._desk(timeout).texts(lines)]
         return sum(others, first)
 
     def _expressions(self, value: Any, name: str, most: Optional[int]) -> List[str]:
@@ -283,7 +242,7 @@ class Calculator:
 
     def same_function(self, left: Expression, right: Expression, *, timeout: Seconds = None) -> bool:
         """Whether two expressions are the same symmetric function: both are expanded in s."""
-        return self.expand("s", left, timeout=timeout) == self.expand("s", right, timeout=timeout)
+        return bool(self.expand("s", left, timeout=timeout) == self.expand("s", right, timeout=timeout))
 
     def quantum_ring(self, rows: SupportsIndex, cols: SupportsIndex) -> Parent[Tuple[int, Partition]]:
         """The quantum cohomology of the Grassmannian Gr(rows, rows + cols), with the products of `quantum`.
@@ -291,15 +250,15 @@ class Calculator:
         >>> print(ring[2, 1] * ring[1] + 3 * ring.q)
         s[2,2]+4*q*s[]
         """
-        return self._home.parent("quantum_ring", whole(rows, "rows"), whole(cols, "cols"))
+        return self._home.parent("quantum_ring", rows, cols)
 
     def cohomology(self, rows: SupportsIndex, dimension: SupportsIndex) -> Parent[Partition]:
         """The cohomology of the Grassmannian Gr(rows, dimension): the products of `quantum` without the terms with q."""
-        return self._home.parent("cohomology", whole(rows, "rows"), whole(dimension, "dimension"))
+        return self._home.parent("cohomology", rows, dimension)
 
     def fusion_ring(self, rows: SupportsIndex, level: SupportsIndex) -> Parent[Partition]:
         """The fusion ring of su(rows) at this level, with the products of `fusion`. Columns of length `rows` are not removed."""
-        return self._home.parent("fusion_ring", whole(rows, "rows"), whole(level, "level"))
+        return self._home.parent("fusion_ring", rows, level)
 
     def schubert_ring(self, *, double: bool = False) -> Parent[Any]:
         """`X`: Schubert polynomials with the products of `schubmult`; or double ones with those of `dschubmult`."""
@@ -311,53 +270,47 @@ class Calculator:
         >>> list(Calculator().tab([2, 1], [1]))
         [Tableau(((None, 1), (1,))), Tableau(((None, 1), (2,)))]
         """
-        shape = partition(inner, "inner")
-        after_words = () if after is None else ("-from", spoken(after, "after", shape))
-        line = words("tab", partition(outer, "outer"), "/", shape, *after_words)
-        return self._listed(line, shape, self._seconds if timeout is None else _arguments.seconds(timeout))
+        line = " ".join(map(str, words_for("tab", (outer, inner) if after is None else (outer, inner, after))))
+        seconds = self._seconds if timeout is None else _arguments.seconds(timeout)
+        return own(self._listed(line, partition(inner, "inner"), seconds), self._way.check)
 
     def _listed(self, line: str, inner: Partition, seconds: Optional[float]) -> Iterator[Tableau]:
-        owner, lines = os.getpid(), self._way.listed(line.encode(), seconds)
         try:
-            for text in lines:
+            for text in self._way.listed(line.encode(), seconds):
                 if text.startswith("! "):
                     raise Refusal.of(f"{text}\n", line)
                 if text != "0":
                     yield tableau_of(text, inner)
-                self._way.check()
-                _batch.own(owner)
         except TimeoutError:
-            raise _batch.late(line, seconds) from None
+            raise Desk(self._way, self._arguments, seconds).late(line) from None
 
     def rsk(self, letters: Shape, *, timeout: Seconds = None) -> Pair:
         """The insertion tableau and the recording tableau of a word, by RSK row insertion.
         >>> Calculator().rsk([3, 1, 2])
         Pair(insertion=Tableau(((1, 2), (3,))), recording=Tableau(((1, 3), (2,))))
         """
-        return pair_of(self._text(words("rsk", numbers(letters, "letters")), timeout))
+        return self._asked(Pair, "rsk", letters, timeout=timeout)
 
     def unrsk(self, insertion: Rows, recording: Rows, *, timeout: Seconds = None) -> Numbers:
         """The inverse of `rsk`: the word with this insertion tableau and this recording tableau.
         >>> Calculator().unrsk(((1, 2), (3,)), ((1, 3), (2,)))
         (3, 1, 2)
         """
-        text = self._text(words("unrsk", spoken(insertion, "insertion"), "-", spoken(recording, "recording")), timeout)
-        return tuple(map(int, text.split()))
+        return self._asked(tuple, "unrsk", insertion, recording, timeout=timeout)
 
     def rect(self, outer: Shape, inner: Shape, tableau: Rows, *, timeout: Seconds = None) -> Tableau:
         """The rectification of a skew tableau by jeu de taquin. The tableau is given by its shape and its rows.
         >>> Calculator().rect([2, 2], [1], ((1,), (1, 2)))
         Tableau(((1, 1), (2,)))
         """
-        shapes = partition(outer, "outer"), "/", partition(inner, "inner")
-        return tableau_of(self._text(words("rect", *shapes, "-", spoken(tableau, "tableau", shapes[2])), timeout).rstrip("\n"))
+        return self._asked(Tableau, "rect", outer, inner, tableau, timeout=timeout)
 
     def growth(self, perm: Shape, *, timeout: Seconds = None) -> Grid:
         """The growth diagram of a permutation of n letters: a tuple of rows 0 to n, where row i has the partitions at (i, 0) to (i, n).
         >>> Calculator().growth([1])
         (((), ()), ((), (1,)))
         """
-        return grid_of(self._text(words("growth", numbers(perm, "perm")), timeout))
+        return self._asked(Grid, "growth", perm, timeout=timeout)
 
     def batch(
         self, lines: Iterable[str], *, progress: Union[bool, Callable[[int], None]] = False, workers: Optional[int] = None, timeout: Seconds = None
@@ -376,15 +329,15 @@ class Calculator:
         if count == 0:
             raise ValueError("workers: at least 1")
         self._way.check()
-        desk = _batch.Desk(self._way.apart(False) if count > 1 else self._way, self._arguments, self._limit(timeout))
-        outcomes = _batch.Lanes(desk, count).outcomes(_batch.Source(lines))
+        desk = self._desk(timeout)
+        outcomes = Lanes(desk._replace(way=self._way.apart(False)) if count > 1 else desk, count).outcomes(Source(lines))
         if progress is True:
-            outcomes = _batch.with_bar(outcomes, len(lines) if isinstance(lines, (list, tuple)) else None)
-        return _batch.blocks(outcomes, None if isinstance(progress, bool) else progress, self._way.check)
+            outcomes = with_bar(outcomes, len(lines) if isinstance(lines, (list, tuple)) else None)
+        return own(blocks(outcomes, None if isinstance(progress, bool) else progress), self._way.check)
 
     def block(self, line: str, *, timeout: Seconds = None) -> Block:
         """The outcome of one line, as `batch` has it: for an executor, as in `executor.map(calc.block, lines)`."""
-        return _batch.Desk(self._way, self._arguments, self._limit(timeout)).one(line, sent(line))
+        return self._desk(timeout).one(line)
 
     def submit(self, method: Callable[..., Result], *arguments: Any, **options: Any) -> Task[Result]:
         """A call of a method of this Calculator in a thread: `calc.submit(calc.mult, [2, 1], [1])` is a Future, which can be awaited, too. If it is
@@ -396,24 +349,14 @@ class Calculator:
         if getattr(method, "__self__", None) is not self:
             raise TypeError(f"submit: {method!r} is not a method of this Calculator")
         calculator = object.__new__(Calculator)
-        calculator.__dict__.update(self.__dict__, _way=self._way.apart(True))
+        way = self._way.apart(True)
+        calculator.__dict__.update(self.__dict__, _way=way, _own=self._own._replace(way=way))
         return Task(partial(getattr(calculator, method.__name__), *arguments, **options), calculator._way.close)
 
 
-def _path(given: Any) -> Optional[str]:
-    """A path that means the same file in another folder."""
-    return None if given is None else os.path.abspath(os.fspath(given))
-
-
-def _word(part: Words) -> Union[str, int, Numbers]:
+def _word(part: Words) -> str:
     """A part of a line: a text, a number or a shape."""
     if isinstance(part, str):
         return text_of(part)
     number = _arguments.integer(part)
-    return numbers(part, "a word") if number is None else whole(number, "a word")  # type: ignore[arg-type]
-
-
-def _basis(target: str) -> str:
-    if not isinstance(target, str) or target not in BASES:
-        raise ValueError(f"target: {target!r} is not m, e, h, p or s")
-    return text_of(target)
+    return " ".join(map(str, numbers(part, "a word"))) if number is None else str(whole(number, "a word"))  # type: ignore[arg-type]

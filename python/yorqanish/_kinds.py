@@ -4,7 +4,7 @@ from __future__ import annotations
 from fractions import Fraction
 from functools import lru_cache, partial
 from itertools import zip_longest
-from typing import Any, Callable, Dict, NamedTuple, Tuple, Union
+from typing import Any, Callable, NamedTuple, Tuple, Union
 
 from ._arguments import Numbers, numbers, partition, whole, without_zeros
 
@@ -12,11 +12,10 @@ Number = Union[int, Fraction]
 
 
 class Kind(NamedTuple):
-    """`term` reads a printed term: its label and its coefficient. `find` makes a label of what is asked for, `order` is the key by which `calc`
-    sorts labels, `size` is the degree of one, `plain` and `latex` write one by the letter of the basis. `one` is the label of 1, and `of` makes a
-    label of a list. `apart` gives the list that is a factor of a command and what is beside it, and `times` multiplies a label by the latter."""
+    """`find` makes a label of what is asked for, `order` is the key by which `calc` sorts labels, `size` is the degree of one, `plain` and `latex` write
+    one by the letter of the basis. `one` is the label of 1, and `of` makes a label of a list. `apart` gives the list that is a factor of a command
+    and what is beside it, and `times` multiplies a label by the latter."""
 
-    term: Callable[[str], Tuple[Any, Number]]
     find: Callable[[Any], Any]
     order: Callable[[Any], Any]
     size: Callable[[Any], int]
@@ -28,38 +27,21 @@ class Kind(NamedTuple):
     times: Callable[[Any, Any], Any] = lambda label, beside: label
 
 
-def one(label: str) -> Numbers:
-    """The numbers of a label: `(2,1)` is (2, 1)."""
+@lru_cache(1 << 16)
+def listed(label: str) -> Numbers:
+    """The numbers of a list: `(2,1)` is (2, 1)."""
     if label[:1] != "(" or label[-1:] != ")":
         raise ValueError(f"{label!r} is not a label")
-    inner = label[1:-1]
-    return tuple(map(int, inner.split(","))) if inner else ()
-
-
-# (the lists of pairs and grids come again and again)
-listed = lru_cache(1 << 16)(one)
-
-
-def two(label: str) -> Tuple[Numbers, Numbers]:
-    first, second = label.split(" ")
-    return listed(first), listed(second)
-
-
-def power(label: str) -> Tuple[int, Numbers]:
-    first, second = label.split("  ")
-    if first[:2] != "q^":
-        raise ValueError(f"{label!r} is not a label")
-    return int(first[2:]), listed(second)
-
-
-def term_of(read: Callable[[str], Any], line: str) -> Tuple[Any, Number]:
-    coefficient, label = line.split("  ", 1)
-    return read(label), Fraction(coefficient) if "/" in coefficient else int(coefficient)
+    return tuple(map(int, label[1:-1].split(","))) if label != "()" else ()
 
 
 # (such terms come again and again)
-ONE_LIST = lru_cache(1 << 16)(partial(term_of, one))
-PAIR = partial(term_of, two)
+@lru_cache(1 << 16)
+def term(line: str) -> Tuple[Any, Number]:
+    """The label and the coefficient of a printed term, as `2  (2,1)`, `2  (2,1) (1)` or `2  q^1  (2,1)`."""
+    coefficient, *words = line.split()
+    label = tuple(int(it[2:]) if it[:2] == "q^" else listed(it) for it in words)
+    return label[0] if len(label) == 1 else label, Fraction(coefficient) if "/" in coefficient else int(coefficient)
 
 
 def a_partition(label: Any) -> Numbers:
@@ -81,19 +63,6 @@ def a_permutation(label: Any) -> Numbers:
     while end > 1 and letters[end - 1] == end:
         end -= 1
     return letters[:end]
-
-
-def both(first: Callable[[Any], Any], second: Callable[[Any], Any]) -> Callable[[Any], Any]:
-    """How a label of two parts is looked up."""
-
-    def find(label: Any) -> Any:
-        if not isinstance(label, (tuple, list)):
-            raise TypeError(f"the label: {label!r} is not a pair")
-        if len(label) != 2:
-            raise ValueError(f"the label: {label!r} is not a pair")
-        return first(label[0]), second(label[1])
-
-    return find
 
 
 def added(*exponents: Numbers) -> Numbers:
@@ -118,6 +87,15 @@ def atom(letter: str, label: Numbers) -> str:
     return f"{letter}[{','.join(map(str, label))}]"
 
 
+def indexed(letter: str, label: Numbers) -> str:
+    return f"{letter}_{{{','.join(map(str, label)) or chr(92) + 'emptyset'}}}"
+
+
+def permuted(letter: str, label: Numbers) -> str:
+    """A Schubert polynomial. (Between the letters of a permutation LaTeX drops blanks, so that a letter over 9 needs commas.)"""
+    return f"\\mathfrak{{S}}_{{{('' if max(label) < 10 else ',').join(map(str, label))}}}"
+
+
 def powers_of(letter: str, label: Numbers, index: str = "{}", power: str = "^{}", between: str = "*") -> str:
     """A monomial by its exponents; nothing if they are all 0."""
     return between.join(letter + index.format(i) + (power.format(e) if e > 1 else "") for i, e in enumerate(label, 1) if e)
@@ -125,50 +103,33 @@ def powers_of(letter: str, label: Numbers, index: str = "{}", power: str = "^{}"
 
 product = partial(powers_of, index="_{{{}}}", power="^{{{}}}", between=" ")
 
+def both(first: Kind, second: Kind, signs: Tuple[str, str] = ("*", " "), order: Tuple[int, int] = (0, 1), **more: Any) -> Kind:
+    """The kind of labels that have two parts, which are written in this order, with a sign between them if both are there: in a line, and in LaTeX."""
 
-def after(front: str, label: str) -> str:
-    return f"{front}*{label}" if front else label
+    def find(label: Any) -> Any:
+        if not isinstance(label, (tuple, list)):
+            raise TypeError(f"the label: {label!r} is not a pair")
+        if len(label) != 2:
+            raise ValueError(f"the label: {label!r} is not a pair")
+        return first.find(label[0]), second.find(label[1])
+
+    def plain(letter: str, label: Any) -> str:
+        return signs[0].join(filter(None, ((first, second)[i].plain(letter, label[i]) for i in order)))
+
+    def latex(letter: str, label: Any) -> str:
+        return signs[1].join(filter(None, ((first, second)[i].latex(letter, label[i]) for i in order)))
+
+    by_both, sizes = lambda it: (first.order(it[0]), second.order(it[1])), lambda it: first.size(it[0]) + second.size(it[1])
+    return Kind(find, by_both, sizes, plain, latex, (first.one, second.one), **more)
 
 
-def power_of_q(exponent: int) -> str:
-    return "" if exponent == 0 else "q" if exponent == 1 else f"q^{exponent}"
-
-
-def indexed(letter: str, label: Numbers) -> str:
-    return f"{letter}_{{{','.join(map(str, label)) or chr(92) + 'emptyset'}}}"
-
-
-def permuted(label: Numbers) -> str:
-    """A Schubert polynomial. (Between the letters of a permutation LaTeX drops blanks, so that a letter over 9 needs commas.)"""
-    return f"\\mathfrak{{S}}_{{{('' if max(label) < 10 else ',').join(map(str, label))}}}"
-
-
-KINDS: Dict[str, Kind] = {
-    "symmetric": Kind(ONE_LIST, a_partition, by_degree, sum, atom, indexed),
-    "pairs": Kind(
-        *(PAIR, both(a_partition, a_partition), lambda it: (by_degree(it[0]), by_degree(it[1])), lambda it: sum(it[0]) + sum(it[1])),
-        lambda letter, it: f"{atom('s', it[0])}#{atom('s', it[1])}",
-        lambda letter, it: f"{indexed('s', it[0])} \\otimes {indexed('s', it[1])}",
-        one=((), ()),
-    ),
-    "powers": Kind(
-        *(partial(term_of, power), both(lambda it: whole(it, "the power of q"), a_partition), lambda it: (it[0], by_degree(it[1]))),
-        *(lambda it: sum(it[1]), lambda letter, it: after(power_of_q(it[0]), atom("s", it[1]))),
-        lambda letter, it: ("" if it[0] == 0 else "q " if it[0] == 1 else f"q^{{{it[0]}}} ") + indexed("\\sigma", it[1]),
-        one=(0, ()),
-        of=lambda it: (0, it),
-        apart=lambda it: (it[1], it[0]),
-        times=lambda label, beside: (label[0] + beside, label[1]),
-    ),
-    "monomials": Kind(ONE_LIST, exponents, by_degree, sum, lambda letter, it: powers_of("x", it), lambda letter, it: product("x", it)),
-    "permutations": Kind(ONE_LIST, a_permutation, by_inversions, inversions, lambda letter, it: atom("X", it), lambda letter, it: permuted(it), (1,)),
-    "shifts": Kind(
-        *(PAIR, both(a_permutation, exponents), lambda it: (by_inversions(it[0]), by_degree(it[1])), lambda it: inversions(it[0]) + sum(it[1])),
-        lambda letter, it: after(powers_of("y", it[1]), atom("X", it[0])),
-        lambda letter, it: f"{product('y', it[1])} {permuted(it[0])}".strip(),
-        one=((1,), ()),
-        of=lambda it: (it, ()),
-        apart=lambda it: (it[0], it[1]),
-        times=lambda label, beside: (label[0], added(label[1], beside)),
-    ),
-}
+SYMMETRIC = Kind(a_partition, by_degree, sum, atom, indexed)
+MONOMIALS = Kind(exponents, by_degree, sum, powers_of, product)
+PERMUTATIONS = Kind(a_permutation, by_inversions, inversions, atom, permuted, (1,))
+PAIRS = both(SYMMETRIC, SYMMETRIC, ("#", " \\otimes "))
+# (the exponent of q, whose degree depends on the ring)
+IN_Q = (lambda letter, it: powers_of("q", (it,), index="")), (lambda letter, it: product("q", (it,), index=""))
+OF_Q = Kind(lambda it: whole(it, "the power of q"), int, lambda it: 0, *IN_Q, 0)
+QUANTUM = both(OF_Q, SYMMETRIC, of=lambda it: (0, it), apart=lambda it: (it[1], it[0]), times=lambda label, beside: (label[0] + beside, label[1]))
+IN_Y = MONOMIALS._replace(plain=lambda letter, it: powers_of("y", it), latex=lambda letter, it: product("y", it))
+DOUBLE = both(PERMUTATIONS, IN_Y, order=(1, 0), of=lambda it: (it, ()), apart=lambda it: it, times=lambda label, beside: (label[0], added(label[1], beside)))

@@ -2,12 +2,13 @@
 from __future__ import annotations
 
 import _thread
-import copy
 import ctypes
+import sys
+from functools import lru_cache
 from queue import Empty, SimpleQueue
 from typing import Iterator, List, Optional, Sequence, Tuple
 
-from ._ways import BREAK, NO_MEMORY, NO_TEXT, PATIENCE, QUESTIONS, NoCalculator, Way, no_memory, not_calc
+from ._ways import BREAK, NO_MEMORY, NO_TEXT, PATIENCE, QUESTIONS, NoCalculator, Way, not_calc
 
 # The room for a first text; a buffer that had to be longer is kept for later calls up to this length.
 ROOM, MOST_KEPT = 1 << 16, 1 << 24
@@ -18,8 +19,7 @@ class Buffer:
 
     def __init__(self, room: int) -> None:
         self.room, held, self.length = room, ctypes.create_string_buffer(room), ctypes.c_size_t()
-        self.bytes = memoryview(held).cast("B")
-        self.place = ctypes.addressof(held), room, ctypes.addressof(self.length)
+        self.bytes, self.place = memoryview(held).cast("B"), (ctypes.addressof(held), room, ctypes.addressof(self.length))
 
 
 class Library(Way):
@@ -39,9 +39,7 @@ class Library(Way):
         size = ctypes.c_size_t
         self._run.argtypes = [ctypes.c_char_p, size, ctypes.c_char_p, size, ctypes.c_void_p, size, ctypes.c_void_p]
         self._run.restype = ctypes.c_uint8
-        # The buffers that no call has (a list's `append` and `pop` are not interrupted).
-        self._free: List[Buffer] = []
-        self._lister: Optional[Way] = None
+        self._idle = []
         # (another library of this name, which may hang, or another version, is found out in a thread of its own)
         got: SimpleQueue[Tuple[int, bytes]] = SimpleQueue()
         _thread.start_new_thread(lambda: got.put(self.run(b"batch", b"\n".join((*QUESTIONS, b"")))), ())
@@ -56,7 +54,7 @@ class Library(Way):
         """The status of the line's command, and its text. The text is asked for once more if it is longer than the buffer."""
         self.check()
         try:
-            buffer = self._free.pop()
+            buffer: Buffer = self._idle.pop()
         except IndexError:
             buffer = Buffer(ROOM)
         while True:
@@ -66,36 +64,27 @@ class Library(Way):
             buffer = Buffer(length)
         text = buffer.bytes[:length].tobytes()
         if buffer.room <= MOST_KEPT:
-            self._free.append(buffer)
+            self._idle.append(buffer)
         return status, text
 
-    def _alone(self, line: bytes, seconds: Optional[float], given: bytes = b"") -> str:
-        status, text = self.run(line, given)
-        if status in (NO_TEXT, NO_MEMORY):
-            raise no_memory()
-        return text.decode("ascii")
-
     def blocks(self, lines: Sequence[bytes], seconds: Optional[float]) -> List[str]:
-        texts = self._alone(b"batch", None, b"\n".join((*lines, b""))).split("--\n")
+        status, text = self.run(b"batch", b"\n".join((*lines, b"")))
+        if status in (NO_TEXT, NO_MEMORY):
+            raise MemoryError("calc was refused memory")
+        texts = text.decode("ascii").split("--\n")
         if len(texts) != len(lines):
             raise not_calc(self.path)
         return texts
 
     def listed(self, line: bytes, seconds: Optional[float]) -> Iterator[str]:
-        """The program lists one line after another; the library would list them all first."""
-        from ._search import program
-
+        """The program lists one line after another; the library lists them all first, which is all there is on Windows."""
         self.check()
-        if self._lister is None:
-            self._lister = program(None)
-        return self._lister.listed(line, seconds)
+        return iter(self.blocks([line], seconds)[0].splitlines()) if sys.platform == "win32" else lister().listed(line, seconds)
 
-    def apart(self, shares: bool) -> Way:
-        other = copy.copy(self)
-        other._whole, other._lister = self, None
-        return other
 
-    def close(self) -> None:
-        self._is_closed = True
-        if self._lister:
-            self._lister.close()
+@lru_cache(None)
+def lister() -> Way:
+    """The program beside the library."""
+    from ._search import program
+
+    return program(None)

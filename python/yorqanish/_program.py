@@ -3,10 +3,8 @@ from __future__ import annotations
 
 import _thread
 import atexit
-import copy
 import fcntl
 import hashlib
-import importlib.util
 import os
 import select
 import signal
@@ -15,17 +13,17 @@ import sys
 import threading
 import time
 import weakref
-from contextlib import suppress
+from contextlib import contextmanager, suppress
 from functools import partial
 from io import FileIO
 from queue import Empty, SimpleQueue
-from typing import Any, Callable, Dict, Iterable, Iterator, List, NoReturn, Optional, Sequence, Tuple, cast
+from typing import Any, Callable, Dict, Iterable, Iterator, List, Optional, Sequence, Tuple
 
-from ._ways import BREAK, END, ENDED, LAST, LONGEST, NO_MEMORY, PATIENCE, QUESTIONS, Ended, NoCalculator, Way, closed, no_memory, not_calc
+from ._ways import BREAK, END, ENDED, LAST, NO_MEMORY, PATIENCE, QUESTIONS, Ended, NoCalculator, Way, not_calc, spawn
 
-# The processes that this one has started, each with the writing end of the pipe that ties it to this one, and with whoever reads from it. A
-# process made by fork closes its copies of their pipes and forgets them.
-STARTED: Dict[subprocess.Popen[bytes], Tuple[Any, weakref.ref[Running]]] = {}
+# The processes that this one has started, each with whoever reads from it. As its standard error a process has the writing end of the pipe that ties it
+# to this one. A process made by fork closes its copies of their pipes and forgets them.
+STARTED: Dict[subprocess.Popen[bytes], weakref.ref[Batch]] = {}
 # What a thread of this package does, which no signal disturbs: to start and to end processes, and to wait for them. An interrupt in one of these could
 # leave a process that nobody knows, or hold a lock of `subprocess` or `threading` for ever. What asks for it is one step, wherever the collector
 # or an interrupted call does that: a reader that is gone leaves its reference here, which calls nothing.
@@ -34,8 +32,7 @@ ASKED: SimpleQueue[Any] = SimpleQueue()
 SERVING: List[int] = []
 # Held while a process is started, and at a fork, whose copies of that process's pipes would else not be known, and keep its start waiting.
 STARTS = threading.RLock()
-IS_ENDING = IS_SUBINTERPRETER = False
-NOTHING = memoryview(b"")
+IS_ENDING = False
 # A group of its own; before Python 3.11 that takes a session of its own.
 GROUP: Dict[str, Any] = {"process_group": 0} if sys.version_info >= (3, 11) else {"start_new_session": True}
 # The longest wait at a time, in seconds: the system counts milliseconds in a machine word.
@@ -44,14 +41,15 @@ LONGEST_WAIT = 86400.0
 GOING = 0.005
 
 
-def high(number: int) -> int:
-    """The same open file under a number over 2: a program that is started has its own files under those, also if this process has none there."""
-    if number > 2:
-        return number
+@contextmanager
+def over_two() -> Iterator[None]:
+    """What is opened meanwhile has no number of a standard file, also if this process has none there."""
+    taken = [os.open(os.devnull, os.O_RDONLY) for _ in range(3)]
     try:
-        return fcntl.fcntl(number, fcntl.F_DUPFD_CLOEXEC, 3)
+        yield
     finally:
-        os.close(number)
+        for it in taken:
+            os.close(it)
 
 
 class File:
@@ -59,17 +57,16 @@ class File:
     was written over is seen by its content."""
 
     def __init__(self, path: str, place: str) -> None:
-        self.path = path
-        self.number = high(os.open(place, os.O_RDONLY | os.O_CLOEXEC))
+        with over_two():
+            self.path, self.number = path, os.open(place, os.O_RDONLY)
         # (at the end of Python it stays open, since a `__del__` may still ask)
         weakref.finalize(self, os.close, self.number).atexit = False
-        self.place = f"/proc/self/fd/{self.number}"
         self._times: Tuple[int, ...] = ()
         self.digest = ""
-        self.check()
+        self.place()
 
-    def check(self) -> None:
-        """The file has the content that was tried, which is looked at again if it was written."""
+    def place(self) -> str:
+        """Its name for a process that this one starts. It has the content that was tried, which is looked at again if it was written."""
         it = os.fstat(self.number)
         times = it.st_mtime_ns, it.st_ctime_ns, it.st_size
         if times != self._times:
@@ -77,44 +74,39 @@ class File:
             if self.digest not in ("", digest):
                 raise NoCalculator(f"{self.path} was changed while it was in use")
             self._times, self.digest = times, digest
+        return f"/proc/{os.getpid()}/fd/{self.number}"
 
 
 def tie(process: subprocess.Popen[bytes], watched: int) -> None:
     """Makes the system kill the group of the process as soon as the writing end of this pipe is closed, which only this process has: when this process
     ends, even by SIGKILL. Nothing is ever written there. (The signal that Linux sends at a parent's death comes at the death of the thread
     that started the process, which may end before the Calculator.)"""
-    if sys.platform == "linux":
-        try:
+    # (without it the process ends when it next reads or writes)
+    with suppress(OSError):
+        if sys.platform == "linux":
             fcntl.fcntl(watched, fcntl.F_SETOWN, -process.pid)
             fcntl.fcntl(watched, fcntl.F_SETSIG, signal.SIGKILL)
             fcntl.fcntl(watched, fcntl.F_SETFL, fcntl.fcntl(watched, fcntl.F_GETFL) | os.O_ASYNC)
-        except OSError:
-            # (without it the process ends when it next reads or writes)
-            pass
 
 
-def start(path: str, words: List[str], file: Optional[File], reader: weakref.ref[Running]) -> subprocess.Popen[bytes]:
+def start(path: str, file: Optional[File], reader: weakref.ref[Batch]) -> subprocess.Popen[bytes]:
     """Starts the program, out of reach of the terminal's Ctrl-C: who is interrupted ends it."""
-    process: Optional[subprocess.Popen[bytes]] = None
     try:
-        with STARTS:
-            if file:
-                file.check()
-            # (`open` is gone at the end of Python)
-            ends = [FileIO(high(it), mode) for _ in range(3) for it, mode in zip(os.pipe(), "rw")]
-            given, into, out, taken, watched, kept = ends
+        with STARTS, over_two():
+            place = file.place() if file else path
+            watched, kept = map(FileIO, os.pipe(), "rw")
+            # (the reading end stays open in the program, and in it alone)
+            how: Dict[str, Any] = {"stderr": subprocess.DEVNULL, "pass_fds": [watched.fileno()], **GROUP}
             try:
-                # (the reading end of the last pipe stays open in the program, and in it alone)
-                passed = (watched.fileno(), file.number) if file else (watched.fileno(),)
-                how: Dict[str, Any] = {"stdin": given, "stdout": taken, "stderr": subprocess.DEVNULL, "pass_fds": passed, **GROUP}
-                process = subprocess.Popen(["calc", *words], executable=file.place if file else path, bufsize=0, **how)
-                process.stdin, process.stdout = into, out
-                STARTED[process] = kept, reader
+                process = subprocess.Popen(["calc", "batch"], executable=place, bufsize=0, stdin=subprocess.PIPE, stdout=subprocess.PIPE, **how)
                 tie(process, watched.fileno())
-                return process
+            except BaseException:
+                kept.close()
+                raise
             finally:
-                for it in ends if process is None else (given, taken, watched):
-                    it.close()
+                watched.close()
+            process.stderr, STARTED[process] = kept, reader
+            return process
     except (OSError, RuntimeError) as error:
         # (a subinterpreter may be forbidden to start processes)
         raise NoCalculator(f"{path} cannot be started: {error.strerror if isinstance(error, OSError) else error}") from None
@@ -129,13 +121,18 @@ def kill(process: subprocess.Popen[bytes]) -> None:
         process.kill()
 
 
+def pipes_of(process: subprocess.Popen[bytes]) -> List[FileIO]:
+    """This process's ends of its pipes."""
+    return [it for it in (process.stdin, process.stdout, process.stderr) if isinstance(it, FileIO) and not it.closed]
+
+
 def end(process: subprocess.Popen[bytes]) -> bool:
     """Ends a process; whether it has gone. Then this process's ends of the pipes are closed."""
     kill(process)
     if process.poll() is None:
         return False
-    kept, _ = STARTED.pop(process, (None, None))
-    for pipe in filter(None, (process.stdin, process.stdout, kept)):
+    STARTED.pop(process, None)
+    for pipe in pipes_of(process):
         # (somebody may have closed all numbers)
         with suppress(OSError):
             pipe.close()
@@ -154,21 +151,8 @@ def end_all(is_ending: bool = False) -> None:
 
 def sweep() -> bool:
     """Ends the processes whose readers are gone or done; whether one of them has yet to go."""
-    over = [process for process, (_, reader) in list(STARTED.items()) if getattr(reader(), "is_done", True)]
+    over = [process for process, reader in list(STARTED.items()) if getattr(reader(), "is_done", True)]
     return not all(list(map(end, over)))
-
-
-def is_subinterpreter() -> bool:
-    found = next((it for it in ("_interpreters", "_xxsubinterpreters") if importlib.util.find_spec(it)), "")
-    return bool(found) and bool(__import__(found).get_current() != __import__(found).get_main())
-
-
-def spawn(task: Callable[..., object], *arguments: Any) -> None:
-    """A thread of this package, without which Python ends. A subinterpreter has none, since it could not be ended. (To start it is one step:
-    `threading` would wait for its begin with a lock that an interrupt can leave held.)"""
-    if IS_SUBINTERPRETER:
-        raise RuntimeError("this package starts no thread in a subinterpreter")
-    _thread.start_new_thread(task, arguments)
 
 
 def serve() -> None:
@@ -183,24 +167,17 @@ def serve() -> None:
             work()
 
 
-def next_asked() -> Any:
-    """What is to be done next, nothing if the thread is to end. Meanwhile the processes that are over are ended."""
-    while sweep():
-        try:
-            return ASKED.get(timeout=GOING)
-        except Empty:
-            pass
-    return ASKED.get()
-
-
 def work() -> None:
-    """Does what is asked for, one after the other."""
+    """Does what is asked for, one after the other, until that is nothing. Meanwhile the processes that are over are ended."""
     SERVING.append(_thread.get_ident())
+    is_wanted = True
     try:
-        while asked := next_asked():
-            asked()
-        while sweep():
-            time.sleep(GOING)
+        while (is_going := sweep()) or is_wanted:
+            with suppress(Empty):
+                asked = ASKED.get(timeout=GOING if is_going else None)
+                is_wanted = is_wanted and asked is not None
+                if asked:
+                    asked()
     finally:
         SERVING.remove(_thread.get_ident())
         if not ASKED.empty():
@@ -246,7 +223,7 @@ def forget_all() -> None:
     global ASKED, STARTS
     ASKED, STARTS = SimpleQueue(), threading.RLock()
     SERVING.clear()
-    pipes = [it for process, (kept, _) in STARTED.items() for it in (process.stdin, process.stdout, kept) if it and not it.closed]
+    pipes = [it for process in STARTED for it in pipes_of(process)]
     for process in STARTED:
         process.returncode = 0
     STARTED.clear()
@@ -259,83 +236,8 @@ def forget_all() -> None:
             os.close(nothing)
 
 
-IS_SUBINTERPRETER = is_subinterpreter()
 atexit.register(end_all, True)
 os.register_at_fork(before=pause, after_in_parent=lambda: STARTS.release(), after_in_child=forget_all)
-
-
-class Running:
-    """A process of the program, whose answers are read as they come, by the process that has started it. It ends with the last reference to this,
-    and at the end of Python."""
-
-    # Whether it is to end, and whether another thread has ended it; the way that has it run a command.
-    is_done = is_stopped = False
-    user: Optional[Program] = None
-
-    def __init__(self, path: str, words: List[str], file: Optional[File]) -> None:
-        self.path, self._owner = path, os.getpid()
-        self.process: subprocess.Popen[bytes] = done(start, path, words, file, weakref.ref(self, ASKED.put))
-        assert self.process.stdin and self.process.stdout
-        self.into, self.out = self.process.stdin.fileno(), self.process.stdout.fileno()
-        os.set_blocking(self.into, False)
-        # (what can be read, without and with what can be written)
-        self._coming, self._both = select.poll(), select.poll()
-        for it in (self._coming, self._both):
-            it.register(self.out, select.POLLIN)
-        self._both.register(self.into, select.POLLOUT)
-
-    def end(self) -> None:
-        """Asks for the end of the process, for which nobody waits."""
-        self.is_done = True
-        ASKED.put(int)
-        serve()
-
-    def stop(self) -> None:
-        """Ends the process from another thread than the one that reads, which closes the pipes."""
-        self.is_stopped = True
-        ASKED.put(partial(kill, self.process))
-        serve()
-
-    def is_idle(self) -> bool:
-        """Whether it waits for a line: nothing comes from it, not even its end. (Once it has ended, the numbers of its pipes may be those of others.)"""
-        return self.process.returncode is None and not self._coming.poll(0)
-
-    def read(self, data: memoryview, deadline: Optional[float]) -> Tuple[bytes, memoryview]:
-        """What has come, and what is left to be written; nothing comes from a process that has ended. It waits until something comes, and
-        until the deadline at most."""
-        data = self._written(data) if data else data
-        while data or deadline is not None:
-            left = LONGEST_WAIT if deadline is None else min(max(0.0, deadline - time.monotonic()), LONGEST_WAIT)
-            ready = dict((self._both if data else self._coming).poll(left * 1000))
-            if self.out in ready:
-                break
-            if ready:
-                data = self._written(data)
-            elif deadline is not None and time.monotonic() >= deadline:
-                raise TimeoutError
-        came = os.read(self.out, 1 << 18)
-        if self._owner != os.getpid():
-            raise NoCalculator("this answer is read by the process that was forked, and not by its copy")
-        return came, data
-
-    def _written(self, data: memoryview) -> memoryview:
-        """Writes what the pipe takes; what is left. Of a process that has gone nothing is left: its output says so."""
-        try:
-            return data[os.write(self.into, data) :]
-        except BlockingIOError:
-            return data
-        except BrokenPipeError:
-            return NOTHING
-
-    def gone(self) -> Exception:
-        """Why there is no more to be read."""
-        if self.is_stopped:
-            return closed()
-        try:
-            status = done(self.process.wait, 1)
-        except subprocess.TimeoutExpired:
-            return Ended(f"{self.path} has closed its output")
-        return no_memory() if status == NO_MEMORY else Ended(f"{self.path} ended with status {status}")
 
 
 def deadline_in(seconds: Optional[float]) -> Optional[float]:
@@ -347,37 +249,113 @@ def input_of(lines: Iterable[bytes]) -> memoryview:
     return memoryview(b"\n".join((*lines, LAST, b"")))
 
 
-class Batch(Running):
-    """A running `calc batch`."""
+class Batch:
+    """A running `calc batch`, whose answers are read as they come, by the process that has started it. It ends with the last reference to this,
+    and at the end of Python."""
+
+    # Whether it is to end, and the way that has it run a command.
+    is_done = False
+    user: Optional[Program] = None
 
     def __init__(self, path: str, file: Optional[File]) -> None:
-        super().__init__(path, ["batch"], file)
-        # The first exchange, by which another program of this name is found out, or another version.
-        wanted, got = BREAK.join(QUESTIONS.values()) + ENDED, b""
-        data, deadline = input_of(QUESTIONS), deadline_in(PATIENCE)
+        self.path, self._owner = path, os.getpid()
+        self.process: subprocess.Popen[bytes] = done(start, path, file, weakref.ref(self, ASKED.put))
+        assert self.process.stdin and self.process.stdout
+        self.into, self.out = self.process.stdin.fileno(), self.process.stdout.fileno()
+        os.set_blocking(self.into, False)
+        # (what can be read, without and with what can be written)
+        self._coming, self._both = select.poll(), select.poll()
+        for it in (self._coming, self._both):
+            it.register(self.out, select.POLLIN)
+        self._both.register(self.into, select.POLLOUT)
+        self._try()
+
+    def _try(self) -> None:
+        """The first exchange, by which another program of this name is found out, or another version."""
+        wanted, got, data, until = BREAK.join((*QUESTIONS.values(), END)), b"", input_of(QUESTIONS), deadline_in(PATIENCE)
         try:
-            while len(got) < len(wanted) and wanted.startswith(got):
-                came, data = self.read(data, deadline)
-                gone = None if came else self.gone()
-                if gone and (self.process.returncode or 0) < 0:
-                    # (somebody has killed it: that says nothing of the program)
-                    raise gone
-                got += came or b"!"
+            while wanted.startswith(got):
+                if got == wanted:
+                    return
+                came, data = self._read(data, until)
+                got += came
         except TimeoutError:
             pass
+        except Ended:
+            if (self.process.returncode or 0) < 0:
+                # (somebody has killed it: that says nothing of the program)
+                raise
         finally:
             if got != wanted:
                 self.end()
-        if got != wanted:
-            raise not_calc(path)
+        raise not_calc(self.path)
+
+    def __enter__(self) -> Batch:
+        return self
+
+    def __exit__(self, kind: Any, *error: Any) -> None:
+        """After a command it waits for another one, or ends, if the command was given up."""
+        user, self.user = self.user, None
+        if user and kind is None and not user.is_over():
+            user._idle.append(self)
+        else:
+            self.end()
+
+    def end(self) -> None:
+        """Asks for the end of the process, for which nobody waits."""
+        self.is_done = True
+        ASKED.put(int)
+        serve()
+
+    def is_idle(self) -> bool:
+        """Whether it waits for a line: nothing comes from it, not even its end. (Once it has ended, the numbers of its pipes may be those of others.)"""
+        return self.process.returncode is None and not self._coming.poll(0)
+
+    def _read(self, data: memoryview, until: Optional[float]) -> Tuple[bytes, memoryview]:
+        """What has come, and what is left to be written. It waits until something comes, and until this time at most."""
+        data = self._written(data) if data else data
+        while data or until is not None:
+            left = LONGEST_WAIT if until is None else min(max(0.0, until - time.monotonic()), LONGEST_WAIT)
+            ready = dict((self._both if data else self._coming).poll(left * 1000))
+            if self.out in ready:
+                break
+            if ready:
+                data = self._written(data)
+            elif until is not None and time.monotonic() >= until:
+                raise TimeoutError
+        came = os.read(self.out, 1 << 18)
+        if self._owner != os.getpid():
+            raise NoCalculator("this answer is read by the process that was forked, and not by its copy")
+        if not came:
+            raise self._gone()
+        return came, data
+
+    def _written(self, data: memoryview) -> memoryview:
+        """Writes what the pipe takes; what is left. Of a process that has gone nothing is left: its output says so."""
+        try:
+            return data[os.write(self.into, data) :]
+        except BlockingIOError:
+            return data
+        except BrokenPipeError:
+            return data[:0]
+
+    def _gone(self) -> Exception:
+        """Why there is no more to be read."""
+        if self.user:
+            self.user.check()
+        try:
+            status = done(self.process.wait, 1)
+        except subprocess.TimeoutExpired:
+            return Ended(f"{self.path} has closed its output")
+        return MemoryError("calc was refused memory") if status == NO_MEMORY else Ended(f"{self.path} ended with status {status}")
 
     def exchange(self, lines: Sequence[bytes], seconds: Optional[float]) -> List[str]:
         """The blocks of lines."""
-        data, got, deadline = input_of(lines), bytearray(), deadline_in(seconds)
+        until = deadline_in(seconds)
+        came, data = self._read(input_of(lines), until)
+        got = bytearray(came)
         while not (got.endswith(ENDED) and got.count(BREAK) > len(lines)):
-            came, data = self.read(data, deadline)
-            if not came:
-                raise self.gone()
+            came, data = self._read(data, until)
             got += came
         first, *texts, _ = got.decode("ascii").split("--\n")
         if first or len(texts) != len(lines):
@@ -386,23 +364,19 @@ class Batch(Running):
 
     def listing(self, line: bytes, seconds: Optional[float]) -> Iterator[str]:
         """The lines of the answer to a line, each as soon as it is there and within so many seconds."""
-        data, rest, breaks = input_of([line]), b"", 0
-        while breaks < 2 or len(rest) < len(END):
-            came, data = self.read(data, deadline_in(seconds))
-            if not came:
-                raise self.gone()
-            # (what comes after the answer is no line of it, however it is cut)
-            *lines, rest = (rest + came).split(b"\n") if breaks < 2 else (rest + came,)
-            for at, it in enumerate(lines, 1):
-                if it + b"\n" != BREAK:
+        # (one break is before the answer, and one after it)
+        breaks, rest, last, data = 0, b"", b"", input_of([line])
+        while breaks < 2 or len(last + rest) < len(END):
+            came, data = self._read(data, deadline_in(seconds))
+            *lines, rest = (rest + came).split(b"\n")
+            for it in lines:
+                if it + b"\n" == BREAK:
+                    breaks += 1
+                elif breaks < 2:
                     yield it.decode("ascii")
-                    continue
-                # (one break is before the answer, and one after it)
-                breaks += 1
-                if breaks == 2:
-                    rest = b"\n".join((*lines[at:], rest))
-                    break
-        if rest != END:
+                else:
+                    last += it + b"\n"
+        if last + rest != END or breaks != 2:
             raise not_calc(self.path)
 
 
@@ -425,89 +399,39 @@ class Program(Way):
 
     def __init__(self, path: str) -> None:
         self.path = os.path.abspath(path)
-        first = Batch(self.path, None)
-        self._file = tried(first)
+        self._idle = [Batch(self.path, None)]
+        self._file = tried(self._idle[0])
         self.digest = self._file.digest if self._file else None
-        self._idle: List[Batch] = [first]
-
-    def apart(self, shares: bool) -> Way:
-        other = copy.copy(self)
-        other._whole, other._idle = self, self._idle if shares else []
-        return other
 
     def _taken(self) -> Batch:
         """A process that is not in use."""
         while True:
             self.check()
             try:
-                batch = self._idle.pop()
+                batch: Batch = self._idle.pop()
             except IndexError:
                 batch = Batch(self.path, self._file)
             batch.user = self
-            # (who closes the way stops the processes that it uses; one that somebody has killed while nobody needed it is missed by nobody)
+            # (who closes the way ends the processes that it uses; one that somebody has killed while nobody needed it is missed by nobody)
             if batch.is_idle() and not self.is_over():
                 return batch
             batch.end()
 
-    def _left(self, one: Running, is_idle: bool) -> None:
-        """Has a process that ran a command run another one, or end."""
-        one.user = None
-        if is_idle and not self.is_over():
-            self._idle.append(cast(Batch, one))
-        else:
-            one.end()
-
     def blocks(self, lines: Sequence[bytes], seconds: Optional[float]) -> List[str]:
-        batch, is_idle = self._taken(), False
-        try:
-            texts = batch.exchange(lines, seconds)
-            is_idle = True
-            return texts
-        finally:
-            self._left(batch, is_idle)
+        with self._taken() as batch:
+            return batch.exchange(lines, seconds)
 
     def listed(self, line: bytes, seconds: Optional[float]) -> Iterator[str]:
-        batch, is_idle = self._taken(), False
-        try:
+        with self._taken() as batch:
             yield from batch.listing(line, seconds)
-            is_idle = True
-        finally:
-            self._left(batch, is_idle)
-
-    def _alone(self, line: bytes, seconds: Optional[float]) -> str:
-        """The answer to a line that is too long for a batch: a process of its own writes it."""
-        if not self._file:
-            raise NoCalculator(f"{self.path} is no program, but runs one: it cannot be asked a line of more than {LONGEST:,} bytes")
-        # (what is not ASCII is in no word of a command: another byte, which is none either, can be in an argument in any locale)
-        words = line.translate(bytes(range(128)) + b"\1" * 128).decode().replace("\t", " ").split(" ")
-        one = Running(self.path, [it for it in words if it], self._file)
-        one.user, text, came, deadline = self, bytearray(), b"\n", deadline_in(seconds)
-        try:
-            self.check()
-            assert one.process.stdin
-            one.process.stdin.close()
-            while came:
-                came, _ = one.read(NOTHING, deadline)
-                text += came
-            gone = one.gone()
-            if text[-1:] != b"\n" or one.process.returncode not in (0, 2, 3, 4):
-                raise gone
-            return text.decode("ascii")
-        finally:
-            self._left(one, False)
-
-    def become(self, words: List[str]) -> NoReturn:
-        """The program takes the place of this process."""
-        if self._file:
-            self._file.check()
-            os.set_inheritable(self._file.number, True)
-        os.execv(self._file.place if self._file else self.path, [self.path, *words])
 
     def close(self) -> None:
         self._is_closed = True
         while self._idle and self._idle is not getattr(self._whole, "_idle", None):
             self._idle.pop().end()
-        for _, reader in list(STARTED.values()):
-            it = reader()
-            if it and it.user and self in (it.user, it.user._whole):
-                it.stop()
+        # (their pipes are closed by the threads that read from them)
+        for it in filter(None, [reader() for reader in list(STARTED.values())]):
+            user = it.user
+            if user and self in (user, user._whole):
+                ASKED.put(partial(kill, it.process))
+                serve()

@@ -5,7 +5,7 @@ import sys
 from typing import TYPE_CHECKING, Any, Dict, Optional
 
 if TYPE_CHECKING:
-    from ._expansion import Expansion
+    from ._elements import Expansion
 
 # Sage's names of the bases.
 BASES = {"Schur": "s", "powersum": "p", "homogeneous": "h", "elementary": "e", "monomial": "m"}
@@ -13,7 +13,7 @@ BASES = {"Schur": "s", "powersum": "p", "homogeneous": "h", "elementary": "e", "
 VARIABLES = 16
 
 
-def element(expansion: Expansion[Any, Any], ring: Any) -> Any:
+def element_of(expansion: Expansion[Any, Any], ring: Any) -> Any:
     """The element of Sage that an element is, over this ring or over the rational numbers."""
     from sage import all as sage  # type: ignore
 
@@ -51,7 +51,7 @@ def is_same(expansion: Expansion[Any, Any], value: Any) -> bool:
     """Whether an element is this one of Sage, as Sage compares elements: of one function also in two bases."""
     try:
         ring = value.parent().base_ring() if expansion.parent.name in BASES.values() else None
-        return bool(element(expansion, ring) == value)
+        return bool(element_of(expansion, ring) == value)
     except (AttributeError, TypeError, ValueError):
         return False
 

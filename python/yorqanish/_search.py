@@ -2,11 +2,13 @@
 from __future__ import annotations
 
 import os
+import shutil
 import subprocess
 import sys
-from typing import TYPE_CHECKING, Iterator, List, Optional, Union
+from itertools import product
+from typing import TYPE_CHECKING, List, Optional, Union
 
-from ._ways import NoCalculator, Way
+from ._ways import NoCalculator
 
 # (Windows has no such pipes and processes: there the library answers)
 IS_WINDOWS = sys.platform == "win32"
@@ -22,22 +24,6 @@ LIBRARY = {"darwin": "libyorqanish.dylib", "win32": "yorqanish.dll"}.get(sys.pla
 PROGRAM = "calc.exe" if IS_WINDOWS else "calc"
 
 
-def on_path(name: str) -> Iterator[str]:
-    """The programs of this name on the PATH, in its order."""
-    for folder in os.environ.get("PATH", os.defpath).split(os.pathsep):
-        path = os.path.join(folder or os.curdir, name)
-        if os.path.isfile(path) and os.access(path, os.X_OK):
-            yield path
-
-
-def named(given: Optional[str], variable: str) -> Optional[str]:
-    """The path that is given, or that of the environment, which must be there."""
-    path = given or os.environ.get(variable) or None
-    if path and not os.path.isfile(path):
-        raise NoCalculator(f"there is no file {path}" + ("" if given else f", which {variable} names"))
-    return path
-
-
 def near(name: str) -> Optional[str]:
     """The file of this name in the checkout or the archive that this package is used in, and else in this package."""
     if not os.path.isfile(GENUINE):
@@ -51,40 +37,34 @@ def near(name: str) -> Optional[str]:
     return done.stdout.strip() if done.returncode == 0 else None
 
 
+def chosen(given: Optional[str], variable: str, name: str) -> Optional[str]:
+    """The path that is given, or that of the environment, which must be there; else that of the file in this package."""
+    path = given or os.environ.get(variable)
+    if path and not os.path.isfile(path):
+        raise NoCalculator(f"there is no file {path}" + ("" if given else f", which {variable} names"))
+    return os.path.abspath(path) if path else near(name)
+
+
 def program(given: Optional[str]) -> Program:
     """The program at the path that is given; else that of YORQANISH_CALC; else in this package; else the first on the PATH that answers."""
-    path = named(given, "YORQANISH_CALC")
+    path = chosen(given, "YORQANISH_CALC", PROGRAM)
     if path:
         return Program(path)
-    beside = near(PROGRAM)
-    if beside:
-        return Program(beside)
     refused: List[str] = []
     # (Debian has another program `calc`, so that a package of ours calls the program `yorqanish`)
-    for path in (*on_path("calc"), *on_path("yorqanish")):
+    for name, folder in product(("calc", "yorqanish"), os.environ.get("PATH", os.defpath).split(os.pathsep)):
+        path = shutil.which(name, path=folder or os.curdir)
         try:
-            return Program(path)
+            if path:
+                return Program(path)
         except NoCalculator as error:
             refused.append(str(error))
     raise NoCalculator("; ".join([*refused, "the program calc is not found: give its path as program=, or in YORQANISH_CALC"]))
 
 
-def library(given: Optional[str]) -> Library:
+def library(given: Union[str, bool, None]) -> Library:
     """The library at the path that is given; else that of YORQANISH_LIBRARY; else in this package; else where the system looks."""
     # (ctypes takes time, and is not to be had in each subinterpreter)
     from ._library import Library
 
-    path = named(given, "YORQANISH_LIBRARY")
-    if path:
-        return Library(os.path.abspath(path))
-    return Library(near(LIBRARY) or LIBRARY)
-
-
-def way(library_given: Union[bool, str, None], program_given: Optional[str], digest: Optional[str] = None) -> Way:
-    """The library if it is asked for, and else the program, which is to be that of this digest, if one is given."""
-    if library_given or IS_WINDOWS:
-        return library(library_given if isinstance(library_given, str) else None)
-    found = program(program_given)
-    if digest and found.digest and found.digest != digest:
-        raise NoCalculator(f"{found.path} is not the program that the Calculator had where it was made")
-    return found
+    return Library(chosen(given if isinstance(given, str) else None, "YORQANISH_LIBRARY", LIBRARY) or LIBRARY)

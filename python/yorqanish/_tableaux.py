@@ -1,18 +1,64 @@
-"""Tableaux, and pairs of them."""
+"""Tableaux, pairs of them, and growth grids; and pictures as SVG, which a notebook shows."""
 from __future__ import annotations
 
 from types import GeneratorType
-from typing import Any, NamedTuple, Optional, Tuple
+from typing import Any, Iterable, NamedTuple, Optional, Sequence, Tuple
 
 from ._arguments import Fixed, Numbers, Row, Rows, Shape, partition, skew_tableau, without_zeros
-from ._pictures import filled
+from ._kinds import a_partition, a_permutation, listed
+
+# The side of a box, and that of a box of a small shape.
+SIDE, SMALL = 24, 6
 
 
-def rows_of(line: str) -> Tuple[Numbers, ...]:
-    """The rows of a tableau as it is printed: `1 1 / 2`."""
-    if line == ".":
-        return ()
-    return tuple(() if row == "." else tuple(map(int, row.split(" "))) for row in line.split(" / "))
+class Picture:
+    """A picture: `svg` is the text of an SVG file, which a notebook shows."""
+
+    def __init__(self, parts: Iterable[str], width: int, height: int) -> None:
+        size = f'width="{width + 2}" height="{height + 2}" viewBox="-1 -1 {width + 2} {height + 2}"'
+        self.svg = f'<svg xmlns="http://www.w3.org/2000/svg" {size} fill="none" stroke="black">{"".join(parts)}</svg>'
+
+    def _repr_svg_(self) -> str:
+        return self.svg
+
+
+def square(x: int, y: int, side: int, more: str = "") -> str:
+    return f'<rect x="{x}" y="{y}" width="{side}" height="{side}"{more}/>'
+
+
+def diagram(outer: Shape, inner: Shape = ()) -> Picture:
+    """The diagram of a partition, or of a skew shape."""
+    parts, holes = a_partition(outer), a_partition(inner)
+    if len(holes) > len(parts) or any(a > b for a, b in zip(holes, parts)):
+        raise ValueError(f"{holes!r} is not in {parts!r}")
+    cells = [square(SIDE * j, SIDE * i, SIDE) for i, part in enumerate(parts) for j in range(sum(holes[i : i + 1]), part)]
+    return Picture(cells, SIDE * max(parts, default=0), SIDE * len(parts))
+
+
+def rothe_diagram(perm: Shape) -> Picture:
+    """The diagram of a permutation: a dot in row i and column w(i), and a box wherever no dot is to the left or above."""
+    letters = a_permutation(perm)
+    size = SIDE * len(letters)
+    parts = [square(0, 0, size, ' stroke="lightgray"')]
+    for i, letter in enumerate(letters):
+        parts.append(f'<circle cx="{SIDE * letter - SIDE // 2}" cy="{SIDE * i + SIDE // 2}" r="4" fill="black"/>')
+        parts += [square(SIDE * (it - 1), SIDE * i, SIDE) for it in letters[i + 1 :] if it < letter]
+    return Picture(parts, size, size)
+
+
+class Grid(Tuple[Tuple[Numbers, ...], ...]):
+    """A growth grid: a tuple of rows 0 to n, of which row i has the shapes at (i, 0) to (i, n)."""
+
+    __slots__ = ()
+
+    def _repr_svg_(self) -> str:
+        side, parts = SMALL * (2 + max((max(len(it), *it) for row in self for it in row if it), default=0)), []
+        for i, row in enumerate(self):
+            for j, shape in enumerate(row):
+                parts.append(square(side * j, side * i, side, ' stroke="lightgray"'))
+                places = ((a, b) for a, part in enumerate(shape, 1) for b in range(1, part + 1))
+                parts += [square(side * j + SMALL * b, side * i + SMALL * a, SMALL) for a, b in places]
+        return Picture(parts, side * max(map(len, self), default=0), side * len(self)).svg
 
 
 class Tableau(Fixed, Tuple[Row, ...]):
@@ -69,25 +115,18 @@ class Tableau(Fixed, Tuple[Row, ...]):
         if style == "young":
             entries = ("".join(":" if it is None else str(it) if it < 10 else f"{{{it}}}" for it in row) for row in self)
             return f"\\young({','.join(entries)})"
-        if style == "array":
-            return self._array()
-        raise ValueError(f"style: {style!r} is not ytableau, young or array")
-
-    def _array(self) -> str:
-        """Boxes without a package, which a notebook can show."""
+        if style != "array":
+            raise ValueError(f"style: {style!r} is not ytableau, young or array")
         if not any(self):
             return "\\emptyset"
-        width = max(map(len, self))
         lines = (" & ".join("" if it is None else f"\\boxed{{{it}}}" for it in row) for row in self)
-        return f"\\begin{{array}}{{{'c' * width}}} " + " \\\\ ".join(lines) + " \\end{array}"
+        return f"\\begin{{array}}{{{'c' * max(map(len, self))}}} " + " \\\\ ".join(lines) + " \\end{array}"
 
     def _repr_latex_(self) -> str:
-        return f"${self._array()}$"
+        return f"${self.latex('array')}$"
 
-    def _repr_svg_(self) -> str:
-        return filled(self).svg
-
-    _latex_ = _array
+    def _latex_(self) -> str:
+        return self.latex("array")
 
 
 class Pair(NamedTuple):
@@ -112,8 +151,9 @@ class Pair(NamedTuple):
 
 
 def tableau_of(line: str, inner: Numbers = ()) -> Tableau:
-    """The tableau of a printed line."""
-    return Tableau._made(rows_of(line), inner)
+    """The tableau of a printed line: `1 1 / 2`."""
+    rows = line.split(" / ") if line != "." else []
+    return Tableau._made(tuple(() if row == "." else tuple(map(int, row.split(" "))) for row in rows), inner)
 
 
 def pair_of(text: str) -> Pair:
@@ -122,3 +162,7 @@ def pair_of(text: str) -> Pair:
     if first[:2] != "P " or second[:2] != "Q ":
         raise ValueError(f"{text!r} is not a pair of tableaux")
     return Pair(tableau_of(first[2:]), tableau_of(second[2:]))
+
+
+def grid_of(text: str) -> Grid:
+    return Grid(tuple(map(listed, line.split(" "))) for line in text.splitlines())

@@ -1,12 +1,15 @@
 """The two ways to the calculator: the program in processes of its own, and the C library."""
 from __future__ import annotations
 
+import _thread
 import copy
-from typing import Iterator, List, Optional, Sequence
+import importlib.util
+import re
+from typing import Any, Callable, Iterator, List, Optional, Sequence
 
 from ._arguments import text_of
 
-# The statuses by which a command says that memory was refused: for the text, which the library alone does, or for the answer.
+# The statuses by which a command says that memory was refused: for the text, which only the library does, or for the answer.
 NO_TEXT, NO_MEMORY = 5, 7
 
 # What each program and library is asked before anything that it says is taken for an answer of `calc`: a line of each command, and the answer
@@ -32,10 +35,8 @@ QUESTIONS = {
     b"rect 2 2 / 1 - 1 / 1 2": b"1 1 / 2\n",
     b"growth 2 1": b"() () ()\n() () (1)\n() (1) (1,1)\n",
 }
-# The line that is asked after others: where its known answer begins, theirs have ended.
-LAST, END = b"rsk", b"P .\nQ .\n"
-BREAK = b"--\n"
-ENDED = BREAK + END
+# The line that is asked after others: where its known answer begins, theirs have ended. What is between two answers.
+LAST, END, BREAK, ENDED = b"rsk", b"P .\nQ .\n", b"--\n", b"--\nP .\nQ .\n"
 
 # What is sent for a line that a batch passes over, where it is to be refused: it is refused at its beginning.
 NO_COMMAND = b"!"
@@ -54,25 +55,25 @@ class Ended(NoCalculator):
 
 
 class Way:
-    """How lines of words become the texts of their answers: `answer` gives that of one line of whatever length, `blocks` those of lines of a batch,
-    none of which it passes over, and `listed` the lines of an answer as they are listed. `close` lets go of what is held, and ends what still runs;
-    whoever asks later is refused. `apart` is the same for some of its calls, which can be closed by themselves, and may share idle processes."""
+    """How lines of words become the texts of their answers: `blocks` gives those of lines of a batch, none of which it passes over, within so many seconds,
+    and `listed` the lines of an answer as they are listed. `close` lets go of what is held, and ends what still runs; whoever asks later is refused.
+    `apart` is the same for some of its calls, which can be closed by themselves, and may share what waits for a call."""
 
     path: str
     can_be_stopped: bool
+    blocks: Callable[[Sequence[bytes], Optional[float]], List[str]]
+    listed: Callable[[bytes, Optional[float]], Iterator[str]]
     # What the program's file is known by.
     digest: Optional[str] = None
+    # What no call has: processes, or buffers (a list's `append` and `pop` are not interrupted).
+    _idle: List[Any]
     _is_closed = False
     # The way of which this one is a part.
     _whole: Optional[Way] = None
 
-    def answer(self, line: bytes, seconds: Optional[float]) -> str:
-        # (in a line `batch` and `work` are no commands, however long it is)
-        return self.blocks([line], seconds)[0] if len(line) <= LONGEST or is_of_batch(line) else self._alone(line, seconds)
-
     def apart(self, shares: bool) -> Way:
         other = copy.copy(self)
-        other._whole = self
+        other._whole, other._idle = self, self._idle if shares else []
         return other
 
     def is_over(self) -> bool:
@@ -80,23 +81,26 @@ class Way:
 
     def check(self) -> None:
         if self.is_over():
-            raise closed()
-
-    def blocks(self, lines: Sequence[bytes], seconds: Optional[float]) -> List[str]:
-        raise NotImplementedError
-
-    def listed(self, line: bytes, seconds: Optional[float]) -> Iterator[str]:
-        raise NotImplementedError
-
-    def _alone(self, line: bytes, seconds: Optional[float]) -> str:
-        raise NotImplementedError
+            raise NoCalculator("the calculator is closed")
 
     def close(self) -> None:
-        raise NotImplementedError
+        self._is_closed = True
+
+
+INTERPRETERS = [__import__(it) for it in ("_interpreters", "_xxsubinterpreters") if importlib.util.find_spec(it)][:1]
+IS_SUBINTERPRETER = any(it.get_current() != it.get_main() for it in INTERPRETERS)
+
+
+def spawn(task: Callable[..., object], *arguments: Any) -> None:
+    """A thread of this package, without which Python ends. A subinterpreter has none, since it could not be ended. (To start it is one step:
+    `threading` would wait for its begin with a lock that an interrupt can leave held.)"""
+    if IS_SUBINTERPRETER:
+        raise RuntimeError("this package starts no thread in a subinterpreter")
+    _thread.start_new_thread(task, arguments)
 
 
 def sent(line: str) -> Optional[bytes]:
-    """The line of a batch that is sent for a line, or nothing if a batch passes over it.
+    """The line of a batch that is sent for a line, or nothing if a batch passes over it, since it has no word or is a comment.
 
     A line feed at its end is dropped, with or without a carriage return before it. One within it, and a zero byte, are sent as another byte
     that is in no word of a command, and is refused at its place.
@@ -107,34 +111,12 @@ def sent(line: str) -> Optional[bytes]:
         return line.encode()
     if not isinstance(line, str):
         raise TypeError(f"a line is a string, and {line!r} is not")
-    data = text_of(line).encode("utf-8", "surrogatepass").replace(b"\0", b"\x01")
-    data = data[:-1] if data.endswith(b"\n") else data
-    data = data[:-1] if data.endswith(b"\r") else data
-    data = data[:-1] + b"\x01" if data.endswith(b"\r") else data
-    if b"\n" in data:
-        data = data.replace(b"\n", b"\x01")
-        return b"\x01" + data if is_passed_over(data) else data
-    return None if is_passed_over(data) else data
-
-
-def is_passed_over(data: bytes) -> bool:
-    """Whether a batch gives no block for a line: it has no word, or is a comment."""
-    words = data.strip(b" \t")
-    return len(data) <= LONGEST and (not words or words.startswith(b"#"))
-
-
-def is_of_batch(data: bytes) -> bool:
-    """Whether a line names a command that is none in a line: `batch` and `work` read or write much that is no answer."""
-    return data.replace(b"\t", b" ").strip(b" ").split(b" ")[0] in (b"batch", b"work")
+    data = re.sub(rb"\r?\n?\Z", b"", text_of(line).encode("utf-8", "surrogatepass"), count=1)
+    clean = re.sub(rb"[\0\n]|\r\Z", b"\x01", data)
+    if len(clean) > LONGEST or clean.strip(b" \t")[:1] not in (b"", b"#"):
+        return clean
+    return b"\x01" + clean if b"\n" in data else None
 
 
 def not_calc(path: str) -> NoCalculator:
     return NoCalculator(f"{path} does not answer as calc does; is it another program or library of this name, or another version?")
-
-
-def no_memory() -> MemoryError:
-    return MemoryError("calc was refused memory")
-
-
-def closed() -> NoCalculator:
-    return NoCalculator("the calculator is closed")

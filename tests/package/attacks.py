@@ -432,16 +432,16 @@ def test_a_program_that_is_replaced():
     with tempfile.TemporaryDirectory() as room:
         path = copied(room)
         calc = Calculator(program=path)
-        sums = "+".join(["1"] * 2048)
-        before = list(calc.tab([2, 1], [1])), calc.expand("m", sums)
+        before = list(calc.tab([2, 1], [1])), calc.mult([1], [1])
         replaced(path)
-        same((list(calc.tab([2, 1], [1])), calc.expand("m", sums)), before)
+        same((list(calc.tab([2, 1], [1])), calc.mult([1], [1])), before)
         # (and processes that are started anew)
         with raises(TimeoutError):
             calc.mult(range(13, 0, -1), range(13, 0, -1), timeout=0.1)
         same(calc.coef([2], [1], [1]), 1)
         os.remove(path)
-        same((list(calc.tab([2, 1], [1])), calc.expand("m", sums)), before)
+        calc._way._idle.clear()
+        same((list(calc.tab([2, 1], [1])), calc.mult([1], [1])), before)
 
 
 def test_a_program_that_is_written_over():
@@ -461,7 +461,7 @@ def test_a_program_that_is_written_over():
         with raises(NoCalculator, "changed"):
             list(calc.tab([2, 1], [1]))
         with raises(NoCalculator, "changed"):
-            calc.expand("m", "+".join(["1"] * 2048))
+            calc.mult([1], [1])
 
 
 def test_a_script_that_runs_the_program():
@@ -472,14 +472,14 @@ def test_a_script_that_runs_the_program():
         calc = Calculator(program=script)
         replaced(path)
         replaced(script)
-        same((list(calc.tab([2], [1])), calc.expand("m", "+".join(["1"] * 2048))), ([Tableau([[None, 1]])], {(): 2048}))
+        same(list(calc.tab([2], [1])), [Tableau([[None, 1]])])
+        calc._way._idle.clear()
+        same(calc.coef([2], [1], [1]), 1)
         os.remove(path)
         shutil.copy(PROGRAM, path)
         replaced(script, f'#!/bin/sh\n{path} "$@"\n')
         calc = Calculator(program=script)
         same((list(calc.tab([2], [1])), calc.coef([2], [1], [1])), ([Tableau([[None, 1]])], 1))
-        with raises(NoCalculator, "4,096"):
-            calc.expand("m", "+".join(["1"] * 2048))
         replaced(script)
         calc._way._idle.clear()
         with raises(NoCalculator, script):

@@ -115,15 +115,12 @@ def test_sums_over_terms():
             wrong()
     with raises(ValueError, "degree"):
         CALC.s.zero().degree()
-    same(CALC.mult([2, 1], [1]).map(lambda label, c: ((1,), c)), {(1,): 3})
-    same(CALC.mult([2, 1], [1]).map(lambda label, c: (label, c - 1)), 0)
 
 
 def test_texts_and_back():
     for it in (CALC.expand("p", "s[3,1]"), CALC.coprod([2, 1]), CALC.dschubmult([2, 1], [2, 1]), CALC.s.zero(), CALC.s({(1,): 2**127 - 1, (2,): Fraction(-1, 10**20)})):
-        same((Expansion.from_json(it.to_json()), len(it.to_csv().splitlines())), (it, len(it) + 1))
+        same(Expansion.from_json(it.to_json()), it)
         same(json.loads(it.to_json())["parent"], [it.parent.name])
-    same(CALC.mult([1], [1]).to_csv(), 'coefficient,label\n1,"(2,)"\n1,"(1, 1)"\n')
 
 
 def test_pictures():
@@ -133,9 +130,6 @@ def test_pictures():
     same([count(it.svg, "rect") for it in (diagram([4, 2, 1]), diagram([3, 2], [1, 1]), diagram([]), diagram([2, 2], (2, 2)))], [7, 3, 0, 0])
     # (the frame, and a box for each inversion)
     same([(count(rothe_diagram(it).svg, "rect") - 1, count(rothe_diagram(it).svg, "circle")) for it in ([1], [2, 1, 4, 3], [3, 2, 1])], [(0, 1), (2, 4), (3, 3)])
-    pair = CALC.rsk([3, 1, 12])
-    same((count(pair.insertion._repr_svg_(), "rect"), count(pair.insertion._repr_svg_(), "text")), (3, 3))
-    same(count(Tableau([[1], [1, 2]], inner=[1])._repr_svg_(), "text"), 3)
     same(count(CALC.growth([2, 1])._repr_svg_(), "rect"), 9 + 1 + 1 + 2)
     for wrong in (lambda: diagram([1, 2]), lambda: diagram([1], [2]), lambda: diagram([2], [1, 1]), lambda: rothe_diagram([2, 2])):
         with raises(ValueError):

@@ -155,9 +155,10 @@ def test_program_and_library_agree():
     same(found[0][:3], ["1  (2)\n1  (1,1)\n", ("SyntaxRefusal", 3, 0), "1  (2)\n1  (1,1)\n"])
     blocks = [[(it.line, it.text, str(it.refusal)) for it in calc.batch(ODD_ENDS)] for calc in ways()]
     same(blocks[0], blocks[-1])
-    long = ["expand m " + "+".join(["1"] * 2048) + end for end in ("", "\r", "\r\n", "\n", " ", "\x0c")]
+    long = ["expand m " + "+".join(["1"] * count) + end for end in ("", "\r", "\r\n", "\n", " ", "\x0c") for count in (2043, 2044, 2048)]
     found = [[said(calc, line) for line in long] for calc in ways()]
     same(found[0], found[-1])
+    same([it for it in found[0] if it[0] == "RangeRefusal"], [("RangeRefusal", 0, 4096)] * 8)
 
 
 def test_no_call_after_the_end():
@@ -169,7 +170,7 @@ def test_no_call_after_the_end():
         calc.close()
         for ask in (lambda: calc.mult([1], [1]), lambda: calc.text("mult 1 - 1"), lambda: list(calc.tab([2, 1], [1])), lambda: list(calc.batch(["#"])),
                     lambda: list(calc.batch(["mult 1 - 1"], workers=2)), lambda: next(listed), lambda: next(blocks), lambda: next(spread),
-                    lambda: calc.expand("m", "+".join(["1"] * 2048)), lambda: calc.text("")):
+                    lambda: calc.expand("m", "1"), lambda: calc.text("")):
             with raises(NoCalculator, "closed"):
                 ask()
         calc.close()
@@ -228,7 +229,8 @@ def test_a_long_answer_goes_on():
         same(calc.expand("h", fractions), {(15,): 1, (14,): 1})
         small = CALC.expand("p", "h[10]+e[9]+h[8]+h[7]+h[6]") / 10**25
         assert len(str(small)) > 4096
-        same(calc.plethysm("s", small, "p[1]"), calc.expand("s", small))
+        inner = "p[1]" + "+0" * 900
+        same((calc.plethysm("s", small, "p[1]"), calc.plethysm("s", small, inner)), (calc.expand("s", small),) * 2)
 
 
 def test_no_lock_is_taken_where_an_interrupt_comes():
@@ -254,7 +256,6 @@ def test_no_lock_is_taken_where_an_interrupt_comes():
                 pass
             calc._way._idle.clear()
             same(calc.coef([2], [1], [1]), 1)
-            calc.expand("m", "+".join(["1"] * 2048))
             same([it.answer for it in calc.batch(["coef 2 - 1 - 1"] * 40, workers=3)], [1] * 40)
     finally:
         sys.setprofile(None)

@@ -13,7 +13,7 @@ from fractions import Fraction
 
 from common import PROGRAM, main, need, printed, pythons, raises, same, terms
 
-from yorqanish import Calculator, Expansion, Refusal, Tableau, _kinds
+from yorqanish import Calculator, Expansion, Refusal, Tableau
 
 CALC = Calculator(program=PROGRAM)
 
@@ -68,15 +68,15 @@ def test_what_needs_no_look_at_the_labels():
     """The views are those of the dictionary, and sums of what has the same labels are in their order as they are."""
     product = CALC.mult([2, 1], [2, 1])
     same([type(it) for it in (product.items(), product.support(), product.values())], [type(it) for it in ({}.items(), {}.keys(), {}.values())])
-    kind, looked = _kinds.KINDS["symmetric"], []
-    _kinds.KINDS["symmetric"] = kind._replace(order=lambda it: looked.append(it) or kind.order(it), find=lambda it: looked.append(it) or kind.find(it))
+    kind, looked = CALC.s.kind, []
+    object.__setattr__(CALC.s, "kind", kind._replace(order=lambda it: looked.append(it) or kind.order(it), find=lambda it: looked.append(it) or kind.find(it)))
     got = [-product, 2 * product, product + product, product - product / 2, product - product, product + CALC.mult([2, 1], [2, 1]), list(product.items())]
     same(looked, [])
-    _kinds.KINDS["symmetric"] = kind
+    object.__setattr__(CALC.s, "kind", kind)
     terms = dict(product)
     for it, factor in zip(got, (-1, 2, 2, Fraction(1, 2), 0, 2, 1)):
         same(list(it), [(label, c * factor) for label, c in terms.items() if factor])
-    some = product.filter(lambda label, c: len(label) == 3)
+    some = CALC.s({label: c for label, c in product if len(label) == 3})
     same((list(product + some), list(some + product), list(product - some)), ([(label, c + some[label]) for label, c in terms.items()],) * 2 + ([it for it in terms.items() if len(it[0]) != 3],))
 
 

@@ -13,7 +13,7 @@ from concurrent.futures import CancelledError, ProcessPoolExecutor, wait
 
 from common import CLOCKS, HANGS, LIBRARY, PROGRAM, Skipped, comes, main, need, pythons, raises, same, within
 
-from yorqanish import Calculator, Ended, Refusal, _batch, _program
+from yorqanish import Calculator, Ended, Refusal, _lines, _program
 
 CALC = Calculator(program=PROGRAM)
 LONG = tuple(range(13, 0, -1))
@@ -50,7 +50,7 @@ def test_a_python_without_standard_input():
     """Killed in the middle of a command, it left the program running: the pipe that ties both had the number 0."""
     script = (
         "import os, threading, time\nfrom yorqanish import Calculator, _program\ncalc = Calculator()\n"
-        "def busy(): return [it().process.pid for _, it in list(_program.STARTED.values()) if it().user]\n"
+        "def busy(): return [it().process.pid for it in list(_program.STARTED.values()) if it().user]\n"
         f"thread = threading.Thread(target=lambda: calc.mult({LONG}, {LONG}), daemon=True)\nthread.start()\n"
         "while not busy(): time.sleep(0.01)\ntime.sleep(0.3)\nos.write(1, (str(busy()[0]) + '\\n').encode())\ntime.sleep(1000)\n"
     )
@@ -73,7 +73,7 @@ def test_no_warning_of_resources():
     """Each Calculator left warnings of open files and running processes."""
     script = (
         "import gc\nfrom yorqanish import Calculator\nfor _ in range(3):\n    calc = Calculator()\n    calc.coef([2], [1], [1])\n    next(calc.tab([3, 2, 1], [2, 1]))\n"
-        "    next(calc.batch(['mult 1 - 1'] * 9, workers=2))\n    calc.expand('m', '+'.join(['1'] * 2048))\n    del calc\n    gc.collect()\n"
+        "    next(calc.batch(['mult 1 - 1'] * 9, workers=2))\n    del calc\n    gc.collect()\n"
         "with Calculator() as calc: calc.mult([1], [1])\ncalc = Calculator()\n"
     )
     for version, name in pythons((3, 8)).items():
@@ -220,17 +220,15 @@ def test_a_process_that_is_killed_while_it_starts():
     same([it.text for it in calc.batch(["mult 1 - 1", "coef 2 - 1 - 1"])], ["1  (2)\n1  (1,1)\n", "1\n"])
 
 
-def test_a_long_line_that_is_cancelled():
-    """Its process ends, also if it was being started."""
-    calc, long = Calculator(program=PROGRAM), f"mult {' ' * 4100}{LONG_LINE[5:]}"
+def test_a_call_that_is_cancelled_while_its_program_starts():
+    """Its process ends."""
+    calc = Calculator(program=PROGRAM)
     for n in range(20):
-        future = calc.submit(calc.text, long)
+        calc._way._idle.clear()
+        future = calc.submit(calc.mult, LONG, LONG)
         time.sleep(n * 0.001)
         future.cancel()
-    until = time.monotonic() + 20
-    while len(programs()) > 2 and time.monotonic() < until:
-        time.sleep(0.02)
-    assert len(programs()) <= 2, len(programs())
+    comes(lambda: len(programs()) <= 2)
     same(calc.coef([2], [1], [1]), 1)
 
 
@@ -293,7 +291,7 @@ def test_memory_behind_a_heavy_line():
     with raises(KeyboardInterrupt):
         next(blocks)
     blocks.close()
-    assert len(read) <= _batch.MOST_AHEAD + 1000, len(read)
+    assert len(read) <= _lines.MOST_AHEAD + 1000, len(read)
     assert resource.getrusage(resource.RUSAGE_SELF).ru_maxrss - before < 400_000, "it took more than 400 MB"
 
 

@@ -10,10 +10,10 @@ CALC = Calculator(program=PROGRAM)
 
 # Refused lines, and what their messages say.
 REASONS = {
-    "mult 1 2 - 1": "part 2 of factor 1 is greater than part 1, in mult 1 [2] - 1",
-    "mult 1 - 3 1 2": "part 3 of factor 2 is greater than part 2, in mult 1 - 3 1 [2]",
-    "coprod" + " 1" * 65: "at most 64 parts",
-    "coprod 300 213": "at most 512 cells, in coprod 300 [213]",
+    "mult 1 2 - 1": "part 2 of factor 1 is greater than the one before it, or than that of the outer partition, in mult 1 [2] - 1",
+    "mult 1 - 3 1 2": "part 3 of factor 2 is greater than the one before it, or than that of the outer partition, in mult 1 - 3 1 [2]",
+    "coprod" + " 1" * 65: "a partition at most 64 parts and 512 cells",
+    "coprod 300 213": "a partition at most 64 parts and 512 cells, in coprod 300 [213]",
     "mult - - - - - - - - ": "at most 8 factors",
     "mult -r 65 1 - 1": "rows is between 1 and 64, in mult -r [65] 1 - 1",
     "quantum 2 0 1 - 1": "cols is between 1 and 64, in quantum 2 [0] 1 - 1",
@@ -21,35 +21,35 @@ REASONS = {
     "mult 1": "a product has two to eight factors, in mult 1 []",
     "quantum 2 2": "a product has two to eight factors",
     "quantum 2": "the command ends too early",
-    "schubert 01 1": "letter 2 of perm occurs twice, in schubert 01 [1]",
+    "schubert 01 1": "letter 2 of perm occurs twice, or is not between 1 and the number of letters, in schubert 01 [1]",
     "schubert 2 002": "letter 2 of perm occurs twice",
     "mult 1 -1": "this word is not allowed here, in mult 1 [-1]",
     "product 1 - 1": "there is no such command, in [product] 1 - 1",
     "coprod 170141183460469231731687303715884105728": "a number is at most 2^127 - 1",
-    "schubert 1 17": "at most 16 letters, in schubert 1 [17]",
-    "schubert 1 5": "letter 2 of perm is not between 1 and the number of letters, in schubert 1 [5]",
-    "schubmult 2 1 - 1 2 2": "letter 3 of right occurs twice, in schubmult 2 1 - 1 2 [2]",
-    "dschubmult 1 - 9 1 2 3 4 5 6 7 8": "at most 8 letters",
+    "schubert 1 17": "at most 16 letters, and 8 of dschubmult, in schubert 1 [17]",
+    "schubert 1 5": "letter 2 of perm occurs twice, or is not between 1 and the number of letters, in schubert 1 [5]",
+    "schubmult 2 1 - 1 2 2": "letter 3 of right occurs twice, or is not between 1 and the number of letters, in schubmult 2 1 - 1 2 [2]",
+    "dschubmult 1 - 9 1 2 3 4 5 6 7 8": "at most 16 letters, and 8 of dschubmult",
     "stanley -r 0 2 1": "rows is between 1 and 64",
-    "rsk 0": "a letter is between 1 and 65,535, in rsk [0]",
+    "rsk 0": "at most 256 letters, each between 1 and 65,535, in rsk [0]",
     "rsk" + " 1" * 257: "at most 256 letters",
-    "rect 1 / 2 - .": "part 1 of inner is greater than that of the outer partition, in rect 1 / [2] - .",
-    "unrsk 1 2 / 3 - 1 2": "recording ends too early for its shape, in unrsk 1 2 / 3 - 1 2 []",
+    "rect 1 / 2 - .": "part 1 of inner is greater than the one before it, or than that of the outer partition, in rect 1 / [2] - .",
+    "unrsk 1 2 / 3 - 1 2": "recording is not a tableau of its shape from here on, in unrsk 1 2 / 3 - 1 2 []",
     "unrsk 1 / 2 3 - 1 / 2 3": "insertion is not a tableau of its shape from here on",
-    "unrsk 65536 - 1": "an entry is between 1 and 65,535",
+    "unrsk 65536 - 1": "at most 256 entries, each between 1 and 65,535",
     "tab 3 2 1 / 2 1 -from 1 / 2 / 2": "the tableau after -from is not in the list",
-    "expand s s[1,2]": "a part is greater than the part before it, in expand s [s[1,2]], at byte 4 of word 2",
-    "expand s 1/0": "the denominator is 0",
-    "expand p s[16]": "the degree is too high: at most 20 into m and s, 15 into p, h and e",
-    "plethysm s h[11] h[1]": "the degree is too high: at most 10",
-    "plethysm s h[2] h[2]-h[1]": "the inner expression of a plethysm must not have a minus sign or a fraction",
-    "plethysm s h[2] 1/2*h[1]": "the inner expression of a plethysm must not have a minus sign or a fraction",
+    "expand s s[1,2]": ", in expand s [s[1,2]], at byte 4 of word 2",
+    "expand s 1/0": "a denominator is 0",
+    "expand p s[16]": "the degree is at most 20 into m and s, 15 into p, h and e",
+    "plethysm s h[11] h[1]": "and 10 in a plethysm",
+    "plethysm s h[2] h[2]-h[1]": "the inner expression of a plethysm has a minus sign or a fraction",
+    "plethysm s h[2] 1/2*h[1]": "the inner expression of a plethysm has a minus sign or a fraction",
     "expand s s[2,1": "the expression ends too early",
     "expand s s[2,,1]": "the expression cannot continue like this",
     "expand q s[1]": "this word is not allowed here, in expand [q] s[1]",
-    "expand m " + "(" * 65 + "1" + ")" * 65: "at most 64 parentheses can be open",
+    "expand m " + "(" * 65 + "1" + ")" * 65: "64 parentheses can be open",
     "expand m m[" + ",".join(["0"] * 65) + "]": "an atom has at most 64 numbers",
-    "x" * 5000: "there is no such command",
+    "x" * 5000: "a line has at most 4,096 bytes",
     "# x": "there is no such command",
     "": "there is no command",
 }
@@ -120,7 +120,7 @@ def test_sums_and_multiples():
 
 def test_the_parent_is_kept():
     a = CALC.expand("p", "h[2]")
-    for it in (a.copy(), a + a, -a, +a, a / 3, a * 2, a - a, a.filter(lambda label, c: False), a.map(lambda label, c: (label, 2)), a**3, a.omega()):
+    for it in (a.copy(), a + a, -a, +a, a / 3, a * 2, a - a, a**3, a.omega()):
         same((type(it), it.parent), (Expansion, CALC.p))
     same(CALC.s({(2, 0): 1, (1,): 2}), {(2,): 1, (1,): 2})
     same(hash(CALC.mult([1], [1])), hash(CALC.skew([2, 1], [1])))
@@ -135,7 +135,6 @@ def test_no_coefficient_is_lost():
         CALC.s({(2,): 1, (2, 0): 5})
     with raises(ValueError, "(2, 1)", "twice"):
         CALC.X({(2, 1): 1, (2, 1, 3): 2})
-    same(CALC.mult([1], [1]).map(lambda label, c: (label[:1] + (0,), c)), {(2,): 1, (1,): 1})
 
 
 def test_a_coefficient_0_is_no_term():

@@ -11,7 +11,7 @@ from itertools import islice
 
 from common import HANGS, LIBRARY, PROGRAM, Skipped, comes, pythons, main, raises, same, within
 
-from yorqanish import Calculator, NoCalculator, Tableau
+from yorqanish import Calculator, NoCalculator, RangeRefusal, Tableau
 
 # A product that takes more than half a minute.
 LONG = tuple(range(13, 0, -1))
@@ -203,10 +203,12 @@ def test_a_list_of_tableaux_that_breaks_off_is_no_whole_list():
             pass
 
 
-def test_an_expression_longer_than_a_line():
-    same(dict(CALC.expand("m", "+".join(["1"] * 2048))), {(): 2048})
-    with raises(ValueError, "4,096 bytes"):
-        CALC.expand("m", "+".join(["1"] * 2049))
+def test_a_line_that_is_too_long():
+    """`calc batch` has lines of at most 4,096 bytes."""
+    same(dict(CALC.expand("m", "+".join(["1"] * 2043))), {(): 2043})
+    for wrong in (lambda: CALC.expand("m", "+".join(["1"] * 2048)), lambda: CALC.plethysm("s", "h[2]", "+".join(["p[1]"] * 1000)), lambda: CALC.mult([10**4100], [1])):
+        with raises(RangeRefusal, "4,096 bytes"):
+            wrong()
 
 
 def has_ended(pid):
@@ -257,7 +259,7 @@ def test_a_python_that_is_killed():
     """The program dies with it in the middle of commands, also if the thread that started it has ended, and a fork does not keep it alive."""
     script = (
         "import os, threading, time\nfrom yorqanish import Calculator, _program\ncalc = Calculator()\nlong = (40, 30, 20, 10)\n"
-        "def busy(): return [it().process.pid for _, it in list(_program.STARTED.values()) if it().user]\n"
+        "def busy(): return [it().process.pid for it in list(_program.STARTED.values()) if it().user]\n"
         "def of_a_thread(*call):\n"
         "    thread = threading.Thread(target=lambda: call[0](*call[1:]), daemon=True)\n    thread.start()\n    return thread\n"
         "of_a_thread(calc.coef, (2,), (1,), (1,)).join()\n"

@@ -1,0 +1,196 @@
+"""The commands of `calc`: their arguments, the line of a call, and why a line was refused, in words: from what `calc` prints, and the line, alone."""
+from __future__ import annotations
+
+import re
+from typing import Any, Dict, Iterable, List, NamedTuple, Optional, Tuple, Type
+
+from ._arguments import Numbers, numbers, partition, spoken, whole
+
+# What an argument can be. Numbers and expressions are one word; the others are lists.
+PARTITION, PERMUTATION, LETTERS, TABLEAU, NUMBER, EXPRESSION = range(6)
+
+
+class Argument(NamedTuple):
+    """An argument of a command: its name, what it is, and the word in front of it."""
+
+    name: str
+    sort: int
+    sign: str = ""
+
+
+# (one factor more than `calc` takes, which it then refuses)
+FACTORS = [Argument(f"factor {i}", PARTITION, "-" if i > 1 else "") for i in range(1, 10)]
+ROWS, OUTER, INNER, TARGET = Argument("rows", NUMBER), Argument("outer", PARTITION), Argument("inner", PARTITION, "/"), Argument("target", EXPRESSION)
+PERM, TWO_PERMUTATIONS = Argument("perm", PERMUTATION), [Argument("left", PERMUTATION), Argument("right", PERMUTATION, "-")]
+COMMANDS: Dict[str, List[Argument]] = {
+    "mult": FACTORS,
+    "quantum": [ROWS, Argument("cols", NUMBER), *FACTORS],
+    "fusion": [ROWS, Argument("level", NUMBER), *FACTORS],
+    "skew": [OUTER, INNER],
+    "coef": [OUTER, Argument("left", PARTITION, "-"), Argument("right", PARTITION, "-")],
+    "coprod": [Argument("shape", PARTITION)],
+    "tab": [OUTER, INNER, Argument("after", TABLEAU, "-from")],
+    "rect": [OUTER, INNER, Argument("tableau", TABLEAU, "-")],
+    "schubert": [PERM],
+    "stanley": [PERM],
+    "growth": [PERM],
+    "schubmult": TWO_PERMUTATIONS,
+    "dschubmult": TWO_PERMUTATIONS,
+    "rsk": [Argument("letters", LETTERS)],
+    "unrsk": [Argument("insertion", TABLEAU), Argument("recording", TABLEAU, "-")],
+    "expand": [TARGET, Argument("expression", EXPRESSION)],
+    "plethysm": [TARGET, Argument("outer", EXPRESSION), Argument("inner", EXPRESSION)],
+}
+
+
+def words_for(command: str, values: Iterable[Any], rows: Any = None) -> List[Any]:
+    """The words and numbers of a call with these arguments, and with this number of variables. A tableau has the inner partition that is given
+    before it."""
+    them: List[Any] = [command] if rows is None else [command, "-r", whole(rows, "rows")]
+    inner: Numbers = ()
+    for (name, sort, sign), value in zip(COMMANDS[command], values):
+        if sign:
+            them.append(sign)
+        if sort == PARTITION:
+            parts = partition(value, name)
+            inner = parts if sign == "/" else inner
+            them += parts
+        elif sort == NUMBER:
+            them.append(whole(value, name))
+        elif sort == TABLEAU:
+            them.append(spoken(value, name, inner))
+        else:
+            them += numbers(value, name)
+    return them
+
+
+def words_of(line: str) -> List[str]:
+    """The words of a line, between blanks and tabs."""
+    return [it for it in line.rstrip("\r\n").replace("\t", " ").split(" ") if it]
+
+
+def place_of(words: List[str], word: int) -> Tuple[Argument, int]:
+    """The argument that a word of the line is in, and the word at which it begins. (Of a word that is in none it is the command.)"""
+    at, found, start = 1, Argument(words[0], EXPRESSION), 0
+    while words[at : at + 1] in (["-r"], ["-m"]):
+        if words[at] == "-r" and word == at + 1:
+            return ROWS, word
+        at += 2 if words[at] == "-r" else 1
+    for argument in COMMANDS.get(words[0], []):
+        if argument.sign:
+            signs = [i for i, it in enumerate(words[: word + 1]) if i >= at and it == argument.sign]
+            if not signs:
+                break
+            at = signs[0] + 1
+        if argument.sort not in (NUMBER, EXPRESSION):
+            found, start = argument, at
+        elif at == word:
+            return argument, at
+        else:
+            at += 1
+    return found, start
+
+
+# Why a word of an argument is refused that is of the right form, by the kind of the refusal and by what the argument is.
+WHY = {
+    ("Range", PARTITION): "a product has at most 8 factors, a partition at most 64 parts and 512 cells",
+    ("Range", PERMUTATION): "at most 16 letters, and 8 of dschubmult",
+    ("Range", LETTERS): "at most 256 letters, each between 1 and 65,535",
+    ("Range", TABLEAU): "at most 256 entries, each between 1 and 65,535",
+    ("Range", NUMBER): "{name} is between 1 and 64",
+    ("Range", EXPRESSION): "the degree is at most 20 into m and s, 15 into p, h and e, and 10 in a plethysm; an atom has at most 64 numbers, and 64 parentheses can be open",
+    ("Shape", PARTITION): "part {number} of {name} is greater than the one before it, or than that of the outer partition",
+    ("Shape", PERMUTATION): "letter {number} of {name} occurs twice, or is not between 1 and the number of letters",
+    ("Shape", TABLEAU): "{name} is not a tableau of its shape from here on",
+    ("Shape", EXPRESSION): "a part is greater than the part before it, a denominator is 0, or the inner expression of a plethysm has a minus sign or a fraction",
+}
+
+
+def why(kind: str, words: List[str], word: int, byte: int) -> str:
+    """Why the words were refused at this place."""
+    if word == 0:
+        return "a line has at most 4,096 bytes" if kind == "Range" else "there is no such command" if words else "there is no command"
+    argument, start = place_of(words, word)
+    if kind == "Literal":
+        return "a number is at most 2^127 - 1"
+    if kind == "Shape" and words[word : word + 1] == ["-from"]:
+        return "the tableau after -from is not in the list"
+    if kind != "Syntax":
+        return WHY[kind, argument.sort].format(name=argument.name, number=word - start + 1)
+    if word == len(words):
+        return "a product has two to eight factors" if argument in FACTORS and "-" not in words else "the command ends too early"
+    if argument.sort != EXPRESSION or argument is TARGET or not start:
+        return "this word is not allowed here"
+    return "the expression cannot continue like this" if words[word][byte:] else "the expression ends too early"
+
+
+def shown(words: List[str], word: int) -> str:
+    """The line with its refused word in brackets; of a long one the words around it."""
+    marked = [f"[{it}]" if i == word else it for i, it in enumerate(words + [""] * (word == len(words)))]
+    marked = [it if len(it) <= 60 else f"{it[:28]}..{it[-28:]}" for it in marked]
+    if len(" ".join(marked)) <= 160:
+        return " ".join(marked)
+    first, last = max(1, word - 8), word + 9
+    return " ".join([*marked[:1], *[".."] * (first > 1), *marked[first:last], *[".."] * (last < len(marked))])
+
+
+class Refusal(ValueError):
+    """Raised for a command that `calc` refuses. The message says why, and at which word of the line.
+
+    `kind` is the name that `calc` prints (`Syntax`, `Literal`, `Range`, `Shape` or `Large`), `line` is the command, and `word` and `byte`
+    are the place in it, both counted from 0. For `Large` they are None."""
+
+    kind = ""
+
+    def __init__(self, line: str, word: Optional[int] = None, byte: Optional[int] = None) -> None:
+        self.line, self.word, self.byte, words = line, word, byte, words_of(line)
+        if word is None or byte is None:
+            told = f"a number of the answer, or a bound for the intermediate ones, is greater than 2^127 - 1, in {shown(words, -1)}"
+        else:
+            told = f"{why(self.kind, words, word, byte)}, in {shown(words, word)}{f', at byte {byte} of word {word}' if byte else ''}"
+        super().__init__(told)
+
+    def __reduce__(self) -> Tuple[Any, ...]:
+        return type(self), (self.line, self.word, self.byte)
+
+    @staticmethod
+    def of(text: str, line: str) -> Refusal:
+        """The refusal of this line that `calc` has printed."""
+        found = re.fullmatch(r"! (\w+)(?: (\d+):(\d+))?\n", text)
+        if not found or found[1] not in REFUSALS or (found[1] == "Large") != (found[2] is None):
+            raise ValueError(f"{text!r} is not an answer of calc")
+        return REFUSALS[found[1]](line, *map(int, filter(None, found.groups()[1:])))
+
+
+class SyntaxRefusal(Refusal):
+    """The line is not a command. `word` and `byte` are the first place at which it is wrong."""
+
+    kind = "Syntax"
+
+
+class LiteralRefusal(Refusal):
+    """A number in the command is greater than 2^127 - 1."""
+
+    kind = "Literal"
+
+
+class RangeRefusal(Refusal):
+    """A limit of `calc` is exceeded."""
+
+    kind = "Range"
+
+
+class ShapeRefusal(Refusal):
+    """A list is not a partition or permutation, rows are not a tableau of the shape, a denominator is 0, or the inner expression of a
+    plethysm has a minus sign or a fraction."""
+
+    kind = "Shape"
+
+
+class TooLarge(Refusal, OverflowError):
+    """A coefficient of the answer, or a bound for the intermediate numbers, is greater than 2^127 - 1."""
+
+    kind = "Large"
+
+
+REFUSALS: Dict[str, Type[Refusal]] = {it.kind: it for it in (SyntaxRefusal, LiteralRefusal, RangeRefusal, ShapeRefusal, TooLarge)}
