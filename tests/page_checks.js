@@ -2,6 +2,13 @@
 (() => {
   const all = (what, of = document) => [...of.querySelectorAll(what)];
   const textsOf = (what, of) => all(what, of).map((it) => it.textContent);
+  /** The text of a formula, with what is set high before what is set low. */
+  const formulasOf = (what, of) =>
+    all(what, of).map((it) => {
+      const copy = it.cloneNode(true);
+      for (const both of all("msubsup", copy)) both.append(both.children[1]);
+      return copy.textContent;
+    });
 
   const run = (text) => {
     at("line").value = text;
@@ -83,7 +90,7 @@
     async readings(lines) {
       const read = (it, i) => {
         const isRefused = it.className === "refused";
-        return [lines[i], isRefused ? null : textsOf("h3", it)[0], isRefused ? "" : textsOf(".computed", it).join(""), all("[data-line]", it).map((of) => of.dataset.line), textsOf(".asked", it).join("").split(" = ")[0]];
+        return [lines[i], isRefused ? null : textsOf("h3", it)[0], isRefused ? "" : textsOf(".computed", it).join(""), all("[data-line]", it).map((of) => of.dataset.line), formulasOf(".asked", it).join("").split(" = ")[0]];
       };
       return (await answersTo(lines)).map(read);
     },

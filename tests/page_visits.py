@@ -428,7 +428,7 @@ def asked_for(*where):
     with Visit(*where) as visit:
         for typed, said, marked in ASKED:
             visit.run(typed)
-            script = "const it = document.querySelector('article'); return [it.querySelector('.asked').textContent, [...it.querySelectorAll('pre .asked-line')].map((of) => of.textContent.trim()), it.querySelector('pre').textContent === kept[kept.length - 1].text]"
+            script = "const it = document.querySelector('article'); it.querySelectorAll('.asked msubsup').forEach((of) => of.append(of.children[1])); return [it.querySelector('.asked').textContent, [...it.querySelectorAll('pre .asked-line')].map((of) => of.textContent.trim()), it.querySelector('pre').textContent === kept[kept.length - 1].text]"
             got = visit.ask(script)
             if got != [said, marked, True]:
                 return f"{typed}: {got}"
@@ -511,4 +511,51 @@ def long_line(*where):
         return wrong((got, [[True, "The line has more than 65,536 characters, the most that are read here."]] * 3))
 
 
-VISITS = [asked_for, first_reading, names_given, early_enter, late_failure, forgotten, other_tab, half_typed, long_line, back, reload, heavy_link, powers_link, lines_link, next_links, unseen_link, several_readings_link, draft, fresh_field, transcript, show_more, thousands, cleared, help_asked, offers, forms, tables, pictures, memory, little_memory, installed]
+# What is marked of an answer, by a selector, and how it is copied.
+MARKED = [
+    ("schubert 2 1 4 3", ".equation", "S_2143 = x_1^2 + x_1 x_2 + x_1 x_3"),
+    ("schubert 1 3 2", ".equation .sum math:last-child msub", "x_2"),
+    ("quantum 2 2 2 1 - 2 1", ".equation .sum", "= q σ_(2) + q σ_(1,1)"),
+    ("expand p s[2,1]", ".equation", "s_(2,1) = −1/3 p_(3) + 1/3 p_(1,1,1)"),
+    ("coef 3 2 1 - 2 1 - 2 1", ".equation", "c_{(2,1),(2,1)}^(3,2,1) = 2"),
+    ("K_{(3,1),(1^4)}", ".asked", "K_{(3,1),(1,1,1,1)} = 3"),
+    ("mult 2 1 -", "pre", ""),
+]
+
+
+def marked(*where):
+    """What is marked in a formula is copied as it looks; a copied left side is read again as the line."""
+    with Visit(*where) as visit:
+        copied = """globalThis.copied = (it) => { getSelection().selectAllChildren(it); if (it.localName.startsWith("m")) getSelection().setBaseAndExtent(it.parentNode, [...it.parentNode.childNodes].indexOf(it), it.parentNode, [...it.parentNode.childNodes].indexOf(it) + 1);
+        const event = new ClipboardEvent("copy", { clipboardData: new DataTransfer(), bubbles: true, cancelable: true }); document.activeElement.blur(); document.querySelector("article").dispatchEvent(event); return event.clipboardData.getData("text/plain").replace(/\\s+/g, " ").trim(); }"""
+        visit.ask(copied)
+        for line, what, text in MARKED:
+            visit.run(line)
+            got = visit.ask(f"return copied(document.querySelector('article').querySelector({json.dumps(what)}))")
+            if got != text:
+                return f"{line}: {got!r}, not {text!r}"
+        for line in ("mult 2 1 - 2 1", "schubmult 1 3 2 - 2 1 3", "skew 3 2 1 / 2 1", "stanley -r 2 2 1 4 3"):
+            visit.run(line)
+            back = visit.ask("const text = copied(document.querySelector('article .computed')); return [text, readTyped(text).line]")
+            if back[1] != line:
+                return f"{line}: {back}"
+        return ""
+
+
+def equations(browser, path, size):
+    """An equation is MathML: its parts have the places of a formula, and a reader of the screen is told so. A long index can break."""
+    with Visit(browser, path, size) as visit:
+        visit.run("schubert 2 1 4 3")
+        parts = "const it = document.querySelector('article .equation'); return [it.querySelectorAll('math').length, it.querySelectorAll('msub').length, it.querySelectorAll('msup, msubsup').length, it.querySelectorAll('sub, sup').length, it.querySelector('math').namespaceURI]"
+        got = visit.ask(parts)
+        low = visit.ask("const of = document.querySelector('article .equation msub'), [base, index] = [...of.children].map((it) => it.getBoundingClientRect()); return index.bottom > base.bottom && index.height < base.height * 1.2")
+        told = []
+        if browser.name == "chromium":
+            nodes = visit.page.channel.ask("Accessibility.getFullAXTree")["nodes"]
+            told = sorted({it["role"]["value"] for it in nodes if "Math" in it["role"]["value"]})
+        visit.run("mult " + "1 " * 200 + "-")
+        wide = visit.ask("const it = document.querySelector('article .equation'); return it.scrollWidth <= it.clientWidth + 1")
+        return wrong((got, [4, 5, 1, 0, "http://www.w3.org/1998/Math/MathML"]), (low, True), (wide, True)) or ("" if not told or {"MathMLMath", "MathMLSub"} <= set(told) else str(told))
+
+
+VISITS = [marked, equations, asked_for, first_reading, names_given, early_enter, late_failure, forgotten, other_tab, half_typed, long_line, back, reload, heavy_link, powers_link, lines_link, next_links, unseen_link, several_readings_link, draft, fresh_field, transcript, show_more, thousands, cleared, help_asked, offers, forms, tables, pictures, memory, little_memory, installed]

@@ -175,12 +175,16 @@ function shownTerm(term, letter) {
   return `${power}${letter === "q" ? "σ" : letter}${index(term.first)}`;
 }
 
-/** A sum of terms in this notation. */
-function shownSum(terms, letter) {
-  const texts = terms.map((term, i) => {
+/** The terms of a sum in this notation, each with its sign. */
+function shownTerms(terms, letter) {
+  return terms.map((term, i) => {
     const isMinus = term.c.startsWith("-"), size = isMinus ? term.c.slice(1) : term.c, label = shownTerm(term, letter);
     const sign = i === 0 ? (isMinus ? "−" : "") : isMinus ? " − " : " + ";
-    return sign + (size === "1" && label ? "" : `${size} `) + label;
+    return sign + (label ? (size === "1" ? "" : `${size} `) + label : size);
   });
-  return texts.join("").trim() || "0";
+}
+
+/** A sum of terms in this notation. */
+function shownSum(terms, letter) {
+  return shownTerms(terms, letter).join("") || "0";
 }

@@ -7,12 +7,13 @@ const ROW = 22;
 const MOST_DRAWN = 60;
 const MOST_CELLS = 6000;
 
-const SVG = "http://www.w3.org/2000/svg";
+const NAMESPACES = { svg: "http://www.w3.org/2000/svg", math: "http://www.w3.org/1998/Math/MathML" };
+/** The elements of a picture and of a formula. */
+const NAMESPACE_OF = { svg: "svg", path: "svg", text: "svg", ...Object.fromEntries("math mrow mi mn mo mtext msub msup msubsup".split(" ").map((it) => [it, "math"])) };
 
-/** An element of the page, or of a picture. */
+/** An element of the page, of a picture, or of a formula. */
 function element(name, attributes = {}, ...children) {
-  const isDrawn = ["svg", "path", "text"].includes(name);
-  const it = isDrawn ? document.createElementNS(SVG, name) : document.createElement(name);
+  const kind = NAMESPACE_OF[name], it = kind ? document.createElementNS(NAMESPACES[kind], name) : document.createElement(name);
   for (const [key, value] of Object.entries(attributes)) it.setAttribute(key, value);
   it.append(...children);
   return it;
@@ -89,7 +90,7 @@ function* figuresOf(answer) {
 
 /** What can be drawn of an answer, with a line that says so if it is a part; null if nothing can. */
 function drawn(answer, text) {
-  if (!answer || answer.kind === "word" || ["x", "S", "SS"].includes(answer.letter)) return null;
+  if (!answer || ["word", "number"].includes(answer.kind) || ["x", "S", "SS"].includes(answer.letter)) return null;
   const box = element("div", { class: "drawn", tabindex: "0", role: "group", "aria-label": "Drawings" });
   if (answer.kind === "grid") {
     box.append(gridTable(answer.rows));

@@ -162,7 +162,7 @@ function askedNote(job, found) {
   const left = computedBy(job.line, job.asked), isNone = found.terms && found.terms.length === 0;
   const where = job.asked.kind === "count" ? "There are so many lines" : isNone ? "No line says so: what is not there is 0" : found.terms.length === 1 ? "The marked line says so" : "The marked lines say so";
   return [
-    element("p", { class: "asked math" }, ...formula(left), " = ", element("strong", {}, ...formula(found.value))),
+    element("p", { class: "asked math" }, ...mathNodes(left), " = ", element("strong", {}, ...mathNodes(found.value))),
     note("note", `${where}. The whole answer is that of ${job.line}:`),
   ];
 }
@@ -171,16 +171,28 @@ function askedNote(job, found) {
 function notesOf(job, isDone, told, error) {
   const { line, unread } = job, notes = told ? [note(unread && unread.said && unread.offers.length > 0 ? "unclear" : "said", told.sentence + (error ? ` (${error})` : ""))] : [];
   if (isDone && line === "batch") notes.push(note("note", "Here batch has no input. Type commands with ; between them."));
-  const outside = isDone ? [outsideBox(line), namedCoefficients(line)].filter(Boolean).map((it) => note("note", ...formula(it))) : [];
+  const outside = isDone ? [outsideBox(line), namedCoefficients(line).replace(/^: /, "The coefficients are ")].filter(Boolean).map((it) => note("note", ...formula(it))) : [];
   return isDone ? [...notes, ...outside, ...(job.isQuestion ? meaningsOf(line) : []).map((it) => note("meaning", ...it))] : notes;
 }
 
-/** What was computed, in mathematics, from the words that ran; and beside the text of a short list of terms the sum that it is. */
-function mathematicsOf(line, text, answer) {
+/** What was computed, in mathematics, from the words that ran. */
+function computedNote(line) {
   const computed = computedBy(line);
-  const isSum = answer && answer.kind === "terms" && answer.terms.length <= MOST_DRAWN && sizeOf(answer, text) === answer.terms.length;
-  const sum = isSum ? [element("p", { class: "sum math" }, "= ", ...formula(shownSum(answer.terms, answer.letter)))] : [];
-  return [computed ? [element("p", { class: "computed math" }, ...formula(computed))] : [], line.startsWith("coef") ? [] : sum];
+  return computed ? [element("p", { class: "computed math" }, ...mathNodes(computed))] : [];
+}
+
+/** The right side of an equation that is shown; nothing, if it is long or no formula. */
+function rightOf(answer, text) {
+  if (answer?.kind === "number") return answer.value;
+  const isShort = answer?.kind === "terms" && answer.terms.length <= MOST_DRAWN && sizeOf(answer, text) === answer.terms.length;
+  return isShort ? shownSum(answer.terms, answer.letter) : "";
+}
+
+/** The equation of an answer: its left side, what was printed as a sum, and what holds for it. */
+function equation(line, right) {
+  const { left, where } = leftOf(line);
+  const sides = [element("span", { class: "left" }, ...mathNodes(left)), " ", element("span", { class: "sum" }, ...mathNodes(`= ${right}`))];
+  return element("p", { class: "equation math" }, ...sides, ...(where ? [element("span", { class: "where" }, ...mathNodes(where))] : []));
 }
 
 /** The latest answers that are not shown, since a hundred others will come: each its job and answer. */
@@ -215,7 +227,7 @@ function shownArticle(job, { status, text = "", time, stopped, why, error }) {
   const { line, unread } = job, isDone = status === 0;
   const told = stopped || isDone ? null : toldOf(job, status, text);
   const answer = isDone ? answerOf(line, frontOf(line, text)) : null, count = countOf(answer, text), found = isDone ? askedOf(job, text) : null;
-  const [computed, sum] = isDone || stopped || text === "! Large\n" ? mathematicsOf(line, text, answer) : [[], []];
+  const computed = isDone || stopped || text === "! Large\n" ? computedNote(line) : [], right = rightOf(answer, text), sum = right ? [equation(line, right)] : [];
   const id = `answer-${(numberOfAnswer += 1)}`, title = element("h3", { id }, element("code", { dir: "ltr" }, ...marked(line, told)));
   const header = element("header", {}, title, element("span", {}, aboutOf(status, count, time, stopped, unread)));
   const article = element("article", { "aria-labelledby": id, tabindex: "-1" }, header, ...changesOf(job), ...(found ? askedNote(job, found) : []), ...(isDone ? insteadOf(job) : []), ...computed);
@@ -223,7 +235,7 @@ function shownArticle(job, { status, text = "", time, stopped, why, error }) {
   article.dataset.of = line;
   if (text) article.append(...textOf(line, text, found ? found.isAsked : undefined), ...sum);
   if (stopped && why) article.append(note("note", `Press Run for the answer: ${why}.`));
-  article.append(...notesOf(job, isDone, told, error), ...(told ? offersOf(job) : []), toolsOf(job, text, answer));
+  article.append(...notesOf(job, isDone, told, error), ...(told ? offersOf(job) : []), toolsOf(job, text, answer, found));
   article.append(...picturesOf(line, answer, text));
   place(article);
   performance.mark("answer");
@@ -275,13 +287,21 @@ function transcript() {
 }
 
 /** The buttons of an answer. What they copy is made when they are pressed. */
-function toolsOf({ line, typed, asked }, text, answer) {
-  const tools = element("div", { class: "tools" });
-  const add = (name, made, what) => tools.append(button(name, () => copy(made(), what)));
+function toolsOf({ line, typed, asked }, text, answer, found) {
+  const tools = element("div", { class: "tools" }, element("span", { "aria-hidden": "true" }, "Copy"));
+  const add = (name, made, what) => {
+    const it = button("", () => copy(made(), what));
+    it.append(element("span", { class: "unseen" }, "Copy "), name.replace("Copy ", ""));
+    tools.append(it);
+  };
   const whole = () => answerOf(line, text);
   if (text) add("Copy text", () => text, "Text");
-  if (answer) add("Copy LaTeX", () => latexOf(whole()), "LaTeX");
-  if (answer && sageOf(answer) !== null) add("Copy for Sage", () => sageOf(whole()), "Text for Sage");
+  if (found) add("Copy the value as LaTeX", () => latexOfFormula(`${computedBy(line, asked)} = ${found.value}`), "LaTeX");
+  if (answer) add("Copy LaTeX", () => latexOf(whole(), line), "LaTeX");
+  if (answer && sageOf(answer, line) !== null) add("Copy for Sage", () => sageOf(whole(), line), "Text for Sage");
+  if (answer) add("Copy for Python", () => pythonOf(whole(), line), "Text for Python");
+  if (answer) add("Copy CSV", () => asCSV(sheetOf(whole())), "CSV");
+  if (answer) add("Copy TSV", () => asTSV(sheetOf(whole())), "TSV");
   add("Copy link", () => `${location.href.split("#")[0]}#${encodeURIComponent(asked ? typed : line)}`, "Link");
   return tools;
 }

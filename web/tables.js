@@ -25,9 +25,6 @@ function permutationsOf(n) {
 const key = (label) => `(${label.join(",")})`;
 const atom = (basis, label) => `${basis}[${label.join(",")}]`;
 
-/** A label as text of a table in CSV. (A spreadsheet reads (1) as -1.) */
-const plainKey = (label) => `[${label.join(",")}]`;
-
 /** The coefficient of a label in terms. */
 function coefficientOf(terms, label) {
   const found = terms.find((it) => key(it.first) === key(label));
@@ -131,9 +128,7 @@ function plainEntry(entry) {
 
 /** A table in CSV: labels of columns first, each row with its label. */
 function csvOf({ labels, entries }) {
-  const cell = (text) => (/[",\n]/.test(text) ? `"${text.replace(/"/g, '""')}"` : text);
-  const rows = [["", ...labels.map(plainKey)], ...entries.map((row, i) => [plainKey(labels[i]), ...row.map(plainEntry)])];
-  return `${rows.map((row) => row.map(cell).join(",")).join("\r\n")}\r\n`;
+  return asCSV([["", ...labels.map(plainKey)], ...entries.map((row, i) => [plainKey(labels[i]), ...row.map(plainEntry)])]);
 }
 
 /** A table in JSON: its title, labels, lines, and entries: numbers, or lists of terms. */
