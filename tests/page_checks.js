@@ -202,7 +202,7 @@
         press(await answer(line), name);
         await got();
       }
-      press(all("article")[0], "Copy link");
+      press(all("article")[0], "Copy local link");
       await got();
       at("cite").click();
       await got();

@@ -1,6 +1,7 @@
 """The visits of tests/page, each to a page of its own: addresses, reloads, lists of commands, and the limits of an address. A visit gets the
 browser, the page's path, and its size, and returns a text of the faults that it found, "" if there are none. All pages are opened in one browser,
 each with a storage of its own."""
+import base64
 import functools
 import http.server
 import json
@@ -558,4 +559,107 @@ def equations(browser, path, size):
         return wrong((got, [4, 5, 1, 0, "http://www.w3.org/1998/Math/MathML"]), (low, True), (wide, True)) or ("" if not told or {"MathMLMath", "MathMLSub"} <= set(told) else str(told))
 
 
-VISITS = [marked, equations, asked_for, first_reading, names_given, early_enter, late_failure, forgotten, other_tab, half_typed, long_line, back, reload, heavy_link, powers_link, lines_link, next_links, unseen_link, several_readings_link, draft, fresh_field, transcript, show_more, thousands, cleared, help_asked, offers, forms, tables, pictures, memory, little_memory, installed]
+TITLE = "calc: Schubert calculus and symmetric functions"
+
+
+def back_and_forward(*where):
+    """Each answer is a step of the way back, has a title, and is shown again without being computed again."""
+    with Visit(*where) as visit:
+        for line in ("coef 1 - 1 -", "mult 1 - 1; rsk 2 1"):
+            visit.run(line)
+        state = "return [document.title, document.activeElement.dataset.of || '', answers().length]"
+        steps = [visit.ask(state)[0]]
+        for way in ("back", "forward"):
+            steps.append(visit.ask(f"await went(() => history.{way}()); await quiet(); {state}"))
+        steps.append(visit.ask(f"await went(() => history.back()); await went(() => history.back()); await quiet(); {state}")[::2])
+        return wrong((steps, ["rsk 2 1 – calc", ["coef 1 - 1 - – calc", "coef 1 - 1 -", 3], ["mult 1 - 1 – calc", "mult 1 - 1", 3], [TITLE, 3]]))
+
+
+def origins(browser, path, size):
+    """A link has the version and the sum of the module; what is shown of a link with others says so."""
+    with Visit(browser, path, size, fragment("coef 1 - 1 -") + "&version=0.0.1&module=00ff00ff00ff") as visit:
+        own, origin = visit.ask("return [linkTo('coef 1 - 1 -'), [at('origin').hidden, at('origin').textContent]]")
+        version, sum = own.split("&version=")[1].split("&module=")
+        said = f"This link was made with calc 0.0.1, module 00ff00ff00ff; what is shown here is computed by calc {version}, module {sum}."
+        first = visit.answers()
+        visit.run("rsk 1")
+        after = visit.ask("return at('origin').hidden")
+    with Visit(browser, path, size, "#" + own.split("#")[1]) as visit:
+        same = visit.ask("return [at('origin').hidden, answers()]")
+    return wrong((origin, [False, said]), (first, [["coef 1 - 1 -", "1\n"]]), (after, True), (same, [True, first]))
+
+
+def links_of_files(browser, path, size):
+    """A link that is copied from a file says that it is local; if the page has a copy on a server, it leads there."""
+    press = """let copied; Object.defineProperty(navigator, "clipboard", { configurable: true, value: { writeText: async (text) => (copied = text) } });
+    const it = [...document.querySelectorAll("article button")].find((of) => of.textContent.endsWith("link")); it.click(); await pause(50); return [it.textContent, copied.split("&")[0], at("state").textContent]"""
+    served = os.path.join(os.path.dirname(path), "served.html")
+    with open(path, encoding="utf-8") as file, open(served, "w", encoding="utf-8") as other:
+        other.write(file.read().replace('data-base=""', 'data-base="https://example.org/calc.html"'))
+    found = []
+    for it in (path, served):
+        with Visit(browser, it, size) as visit:
+            visit.run("K_{(3,1),(1^4)}")
+            found.append(visit.ask(press))
+    typed = urllib.parse.quote("K_{(3,1),(1^4)}", safe="()!*'")
+    local = ["Copy local link", f"file://{path}#{typed}", "A local link, which opens this file on this machine only, was copied."]
+    return wrong((found, [local, ["Copy link", f"https://example.org/calc.html#{typed}", "Link copied."]]))
+
+
+def linked_table(*where):
+    """A table has an address and a title, and is made by its link; a link that asks for a table that is none runs nothing."""
+    with Visit(*where, fragment("table characters 3") + "&version=x&module=0") as visit:
+        got = visit.ask("return [document.querySelectorAll('.made tr').length, document.title, at('origin').hidden, at('kind').value]")
+        link = visit.ask("return [...document.querySelectorAll('#made button')].some((it) => it.textContent.endsWith('link'))")
+        visit.run("coef 1 - 1 -")
+        back = visit.ask("await went(() => history.back()); await quiet(); return [document.title, decodeURIComponent(location.hash)]")
+    with Visit(*where, fragment("table characters 10")) as visit:
+        none = visit.ask("return document.querySelectorAll('.made tr').length")
+    title = "Characters of the symmetric group S_n, n = 3 – calc"
+    return wrong((got, [4, title, False, "characters"]), (link, True), (back, [title, "#table characters 3"]), (none, 0))
+
+
+def undone(*where):
+    """What was cleared, forgotten or removed comes back, the latest first."""
+    with Visit(*where) as visit:
+        visit.run("coef 1 - 1 -; coef 2 - 1 - 1")
+        state = "[answers().map(([line]) => line), kept.length, [...asked], at('history').hidden, decodeURIComponent(location.hash)]"
+        before = visit.ask(f"return {state}")
+        gone = visit.ask(f"at('clean').click(); at('forget').click(); return {state}")
+        titles = visit.ask("const seen = [at('undo').title]; at('undo').click(); seen.push(at('undo').title); at('undo').click(); return [...seen, at('undo').hidden]")
+        after = visit.ask(f"return {state}")
+        lists = visit.ask(f"""ask({json.dumps(HEAVY)}); ask("rsk 1; rsk 2; rsk 3"); await until(() => running); const lines = () => waiting.map((it) => it.line);
+        document.querySelectorAll("#waiting button")[1].click(); const removed = lines(); at("undo").click(); const back = lines(); at("clear").click(); const none = lines();
+        at("undo").click(); const all = lines(); stop(); await quiet(); return [removed, back, none, all, answers().length, at("state").textContent]""")
+        visit.run("rsk 4")
+        three = ["rsk 1", "rsk 2", "rsk 3"]
+        return wrong(
+            (gone, [[], 0, [], True, ""]), (titles, ["Brings back the earlier commands", "Brings back the answers", True]), (after, before),
+            (lists, [["rsk 1", "rsk 3"], three, [], three, 6, "4 commands: 3 answered and 1 stopped."]), (visit.answers()[0][0], "rsk 4"),
+        )
+
+
+# What is seen of the open page: texts in elements of these kinds, others, and whether something is wider than the page.
+SEEN = """const kinds = ".equation, .asked, .computed, .drawn, .wide", all = [...document.body.querySelectorAll("*")].filter((it) => it.checkVisibility() && [...it.childNodes].some((of) => of.nodeType === 3 && of.textContent.trim()));
+return [all.filter((it) => !it.closest(kinds)).map((it) => it.localName + it.textContent.slice(0, 30)), all.filter((it) => it.getBoundingClientRect().right > innerWidth + 1).map((it) => it.textContent.slice(0, 30)), [...document.querySelectorAll(".equation")].map((it) => it.querySelectorAll(".sum math").length), getComputedStyle(document.body).color]"""
+
+
+def printed_page(browser, path, size):
+    """Printed are the equations, whole, in black, and nothing else: also of an answer that is too long to be shown as one; without answers the page."""
+    if browser.name != "chromium":
+        return ""
+    with Visit(browser, path, size) as visit:
+        ask = visit.page.channel.ask
+        empty = ask("Page.printToPDF")["data"]
+        for line in ("mult 2 1 - 2 1", "mult 1 2 - 1", "mult 5 4 3 2 1 - 4 3 2 1", "tab 2 1 / 1", "schubert " + " ".join(map(str, range(16, 0, -1))), "expand m s[5,4]"):
+            visit.run(line)
+        ask("Emulation.setEmulatedMedia", media="print", features=[{"name": "prefers-color-scheme", "value": "dark"}])
+        ask("Emulation.setDeviceMetricsOverride", width=640, height=900, deviceScaleFactor=1, mobile=False)
+        others, wide, terms, ink = visit.ask(f"dispatchEvent(new Event('beforeprint')); {SEEN}")
+        left = visit.ask("dispatchEvent(new Event('afterprint')); return document.querySelectorAll('.equation.long').length")
+        pages = base64.b64decode(ask("Page.printToPDF")["data"]).count(b"/Type /Page\n")
+        # (each term is a piece, and so are those of an index that is long)
+        return wrong((others, []), (wide, []), (sorted(terms), [1, 7, 29, 503]), (ink, "rgb(0, 0, 0)"), (left, 0)) or ("" if 1 < pages <= 6 and len(empty) > 40000 else f"{pages} pages, {len(empty)}")
+
+
+VISITS = [printed_page, back_and_forward, origins, links_of_files, linked_table, undone, marked, equations, asked_for, first_reading, names_given, early_enter, late_failure, forgotten, other_tab, half_typed, long_line, back, reload, heavy_link, powers_link, lines_link, next_links, unseen_link, several_readings_link, draft, fresh_field, transcript, show_more, thousands, cleared, help_asked, offers, forms, tables, pictures, memory, little_memory, installed]

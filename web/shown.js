@@ -233,6 +233,9 @@ function shownArticle(job, { status, text = "", time, stopped, why, error }) {
   const article = element("article", { "aria-labelledby": id, tabindex: "-1" }, header, ...changesOf(job), ...(found ? askedNote(job, found) : []), ...(isDone ? insteadOf(job) : []), ...computed);
   if (!isDone) article.className = "refused";
   article.dataset.of = line;
+  article.dataset.title = named(inSight(addressOf(job)));
+  entitle(article.dataset.title);
+  if (isDone) answersOfArticles.set(article, { line, text });
   if (text) article.append(...textOf(line, text, found ? found.isAsked : undefined), ...sum);
   if (stopped && why) article.append(note("note", `Press Run for the answer: ${why}.`));
   article.append(...notesOf(job, isDone, told, error), ...(told ? offersOf(job) : []), toolsOf(job, text, answer, found));
@@ -258,10 +261,15 @@ function keepText(line, text) {
   while (sizeKept > MOST_KEPT && kept.length > 1) sizeKept -= kept.shift().text.length;
 }
 
-/** Puts an article above the others, and takes the oldest ones away. */
+/** Puts an article above the others. */
 function place(article) {
   at("given").hidden = false;
   at("answers").prepend(article);
+  countShown();
+}
+
+/** Takes the oldest answers away, and says how many of them are shown. */
+function countShown() {
   const articles = at("answers").children;
   while (articles.length > Math.min(MOST_ANSWERS, kept.length)) articles[articles.length - 1].remove();
   const number = (it) => it.toLocaleString("en");
@@ -272,12 +280,22 @@ function place(article) {
 
 /** Takes all answers away. */
 function clearAnswers() {
+  const articles = [...at("answers").children], texts = kept.splice(0), [size, given] = [sizeKept, answersGiven];
   at("answers").replaceChildren();
-  kept.length = sizeKept = answersGiven = 0;
+  sizeKept = answersGiven = 0;
   unshown = [];
   at("given").hidden = true;
   at("older").hidden = true;
+  entitle();
   say("The answers were cleared.");
+  canUndo("the answers", () => {
+    kept.unshift(...texts);
+    sizeKept += size;
+    answersGiven += given;
+    at("answers").append(...articles);
+    at("given").hidden = false;
+    countShown();
+  });
   toField();
 }
 
@@ -302,7 +320,7 @@ function toolsOf({ line, typed, asked }, text, answer, found) {
   if (answer) add("Copy for Python", () => pythonOf(whole(), line), "Text for Python");
   if (answer) add("Copy CSV", () => asCSV(sheetOf(whole())), "CSV");
   if (answer) add("Copy TSV", () => asTSV(sheetOf(whole())), "TSV");
-  add("Copy link", () => `${location.href.split("#")[0]}#${encodeURIComponent(asked ? typed : line)}`, "Link");
+  tools.append(linkButton(addressOf({ typed, line, asked })));
   return tools;
 }
 
