@@ -5,8 +5,13 @@ import vm from "vm";
 
 const [script, answers] = process.argv.slice(2);
 vm.runInThisContext(fs.readFileSync(script, "utf8"));
+// (an equation in the notation of the page)
+vm.runInThisContext(`const equationTyped = (answer, line) => {
+  const { left, where } = leftOf(line);
+  return answer.kind === "terms" || answer.kind === "number" ? left + " = " + (answer.value ?? shownSum(answer.terms, answer.letter)) + where : "";
+}`);
 const copies = vm.runInThisContext(`([line, text]) => {
   const answer = answerOf(line, text);
-  return answer && { line, text, latex: latexOf(answer, line), sage: sageOf(answer, line), python: pythonOf(answer, line), csv: asCSV(sheetOf(answer)) };
+  return answer && { line, text, latex: latexOf(answer, line), sage: sageOf(answer, line), python: pythonOf(answer, line), csv: asCSV(sheetOf(answer)), equation: equationTyped(answer, line) };
 }`);
 console.log(JSON.stringify(JSON.parse(fs.readFileSync(answers, "utf8")).map(copies)));

@@ -264,11 +264,23 @@ def by_latex(copies):
     return compiled([f"\\[\n{it['latex']}\n\\]" for it in copies])
 
 
+def examples(build, printed):
+    """Each command has a text on what is proved, and its example, which is written by hand, is the equation of its line."""
+    theorems = json.loads(build.text_of("theorems.json"))
+    missing = {it.name for it in build.command_help.COMMANDS} - set(theorems) - {"batch", "work"}
+    lines = [it["example"][0] for it in theorems.values() if "example" in it]
+    for it, copies in zip((it for it in theorems.values() if "example" in it), copies_of(build, lines, printed)):
+        if copies["equation"] != it["example"][1]:
+            return f"{it['example']}: {copies['equation']}"
+    return str(missing or "")
+
+
 def tried(tally, build, printed, program):
     """All readers, counted."""
     copies = copies_of(build, LINES, printed)
     tally.count("copies: all answers have them", "" if all(copies) and len(copies) >= 40 else str([line for line, it in zip(LINES, copies) if not it]))
     copies = [it for it in copies if it]
+    tally.count("copies: the examples of the theorems", examples(build, printed))
     tally.count("copies: read back by the package", by_python(copies, program))
     tally.count("copies: read back as Sage's names", by_sage(copies))
     tally.count("copies: tables", by_csv(copies))

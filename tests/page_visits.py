@@ -6,10 +6,13 @@ import functools
 import http.server
 import json
 import os
+import shutil
 import threading
 import urllib.parse
+import xml.etree.ElementTree
 
 from browse import WAITS
+import page_copies
 
 HEAVY = "mult 9 8 7 6 5 4 3 2 1 - 9 8 7 6 5 4 3 2 1 - 9 8 7 6 5 4 3 2 1"
 LARGE = "mult 8 6 5 4 3 2 1 - 6 5 4 3 2 1"
@@ -662,4 +665,69 @@ def printed_page(browser, path, size):
         return wrong((others, []), (wide, []), (sorted(terms), [1, 7, 29, 503]), (ink, "rgb(0, 0, 0)"), (left, 0)) or ("" if 1 < pages <= 6 and len(empty) > 40000 else f"{pages} pages, {len(empty)}")
 
 
-VISITS = [printed_page, back_and_forward, origins, links_of_files, linked_table, undone, marked, equations, asked_for, first_reading, names_given, early_enter, late_failure, forgotten, other_tab, half_typed, long_line, back, reload, heavy_link, powers_link, lines_link, next_links, unseen_link, several_readings_link, draft, fresh_field, transcript, show_more, thousands, cleared, help_asked, offers, forms, tables, pictures, memory, little_memory, installed]
+# The lines whose drawings are taken along, with the number of sets of drawings: of the answer, and of each picture step by step.
+TAKEN = [("growth 3 1 2", 2), ("mult 2 1 - 2 1", 1), ("coprod 2 1", 1), ("quantum 2 2 2 1 - 2 1", 1), ("expand p s[2,1]", 1), ("rsk 3 1 2", 2), ("tab 3 2 1 / 2 1", 2), ("rect 2 2 / 1 - 1 / 1 2", 2), ("schubert 2 1 4 3", 2), ("mult -", 1)]
+
+
+def taken_along(*where):
+    """Drawings are copied as SVG, which is XML with all their cells and letters, and as TikZ and ytableau, which pdflatex compiles."""
+    with Visit(*where) as visit:
+        visit.ask("globalThis.got = []; Object.defineProperty(navigator, 'clipboard', { configurable: true, value: { writeText: async (text) => void got.push(text) } })")
+        copied = {}
+        for line, count in TAKEN:
+            visit.run(line)
+            got = visit.ask("""got.length = 0; const all = [...document.querySelector("article").querySelectorAll(".tools button")].filter((it) => /^Copy (SVG|TikZ|ytableau)$/.test(it.textContent));
+            for (const it of all) it.click(), await pause(20); return all.map((it, i) => [it.textContent, got[i]])""")
+            copied[line] = got
+            if [name for name, _ in got].count("Copy SVG") != count:
+                return f"{line}: {[name for name, _ in got]}"
+        svgs = {line: [xml.etree.ElementTree.fromstring(text) for name, text in got if name == "Copy SVG"] for line, got in copied.items()}
+        texts = lambda svg: sorted(it.text for it in svg.iter("{http://www.w3.org/2000/svg}text"))
+        # (at the corners of the grid of 3 1 2 are nine empty shapes and four of one cell; a letter at each row, a number at each column, and three crosses)
+        growth = sorted(["∅"] * 9 + ["1"] * 4 + ["2", "1,1", "2,1"] + ["×"] * 3 + ["3", "1", "2"] + ["1", "2", "3"])
+        pieces = [text for got in copied.values() for name, text in got if name == "Copy TikZ"]
+        formulas = [f"$\n{text}\n$" for got in copied.values() for name, text in got if name == "Copy ytableau"]
+        said = page_copies.compiled(pieces + formulas) if shutil.which("pdflatex") else ""
+        return wrong((texts(svgs["growth 3 1 2"][0]), growth), (texts(svgs["rsk 3 1 2"][0]), sorted("123132PQ")), (len(formulas), 5)) or said
+
+
+def growth_steps(*where):
+    """A growth diagram has the crosses and letters of the permutation, and grows cell by cell to what is printed."""
+    with Visit(*where) as visit:
+        visit.run("growth 3 1 2")
+        got = visit.ask("""const it = document.querySelector("article .steps"), range = it.querySelector("input"), said = [];
+        for (let n = 1; n <= Number(range.max); n += 1) { range.value = String(n); range.oninput(); said.push(it.querySelector(".step-caption").textContent); }
+        return [said, it.querySelector("[role=img]").getAttribute("aria-label"), document.querySelector("article .drawn [role=img]").getAttribute("aria-label")]""")
+        said = [
+            *["Row 1, column 1: nothing changes.", "Row 1, column 2: nothing changes.", "Row 1, column 3: a cross: a cell more in the first row."],
+            *["Row 2, column 1: a cross: a cell more in the first row.", "Row 2, column 2: the shapes above and on the left are different: their union."],
+            *["Row 2, column 3: both grow in row 1: a cell more in row 2.", "Row 3, column 1: the shapes above and on the left are different: their union."],
+            *["Row 3, column 2: a cross: a cell more in the first row.", "Row 3, column 3: the shapes above and on the left are different: their union."],
+        ]
+        return wrong(([it.split(". ", 1)[1] for it in got[0]], said), (got[1:], ["growth diagram of 3 1 2, up to row 3, column 3", "growth diagram of 3 1 2"]))
+
+
+# What is said below an answer of what is proved: the line, and parts of the text.
+PROVED = [
+    ("quantum 2 2 2 1 - 2 1", ["That this is the product in QH*(Gr(K, K+C)) is a theorem, which is not proved here.", "Bertram, Ciocan-Fontanine and Fulton"]),
+    ("fusion 3 2 2 1 - 2 1", ["is a theorem, which is not proved here", "Kac and Walton"]),
+    ("mult 2 1 - 1", ["The printed list has all terms", "Littlewood–Richardson rule", "Stembridge"]),
+]
+
+
+def theorems(*where):
+    """Beside an answer stands, folded, what is proved of it; of quantum and fusion products it is said in sight that a theorem makes the reduction the product."""
+    with Visit(*where) as visit:
+        for line, parts in PROVED:
+            visit.run(line)
+            text, is_open, notes = visit.ask("const it = document.querySelector('article .theorem'); return [it.textContent, it.open, [...document.querySelectorAll('article')[0].querySelectorAll('.note')].map((of) => of.textContent)]")
+            missing = [it for it in parts if it not in text]
+            if missing or is_open or ("Proved is that this is" in " ".join(notes)) != line.startswith(("quantum", "fusion")):
+                return f"{line}: {missing} in {text}; {notes}"
+        said = visit.ask("ask('quantum 2 2 2 1 - 2 1'); await quiet(); return [...document.querySelector('article').querySelectorAll('.note')].map((it) => it.textContent)")
+        wanted = "Proved is that this is the product in K variables, reduced by rim hooks. That it is the product in QH*(Gr(2,4)) is a theorem of Bertram, Ciocan-Fontanine and Fulton."
+        run = visit.ask("document.querySelector('article .theorem').open = true; document.querySelector('article .theorem [data-line]').click(); await quiet(); return answers()[0]")
+        return wrong((wanted in said, True), (run, ["quantum 1 1 1 - 1", "1  q^1  ()\n"]))
+
+
+VISITS = [taken_along, growth_steps, theorems, printed_page, back_and_forward, origins, links_of_files, linked_table, undone, marked, equations, asked_for, first_reading, names_given, early_enter, late_failure, forgotten, other_tab, half_typed, long_line, back, reload, heavy_link, powers_link, lines_link, next_links, unseen_link, several_readings_link, draft, fresh_field, transcript, show_more, thousands, cleared, help_asked, offers, forms, tables, pictures, memory, little_memory, installed]

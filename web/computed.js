@@ -126,6 +126,14 @@ function computedBy(line, asked) {
   return asked ? ASKED[asked.kind](asked, of) : COMPUTED[words[0]](of) + (parts.some((it) => it.sign === "-m") ? ", on one line" : "");
 }
 
+/** What is proved of a quantum or fusion product, and what is a theorem; nothing of other lines. */
+function reductionOf(line) {
+  const [name] = textsOfWords(line), computed = ["quantum", "fusion"].includes(name) ? computedBy(line) : "";
+  if (computed === "") return "";
+  const [how, where, whose] = name === "quantum" ? ["by rim hooks", /QH.*$/, "of Bertram, Ciocan-Fontanine and Fulton"] : ["into the alcove", /su\(.*$/, "of Kac and Walton"];
+  return `Proved is that this is the product in K variables, reduced ${how}. That it is the product ${name === "quantum" ? "in" : "for"} ${where.exec(computed)[0]} is a theorem ${whose}.`;
+}
+
 /** What the coefficients of the answer to a line are called, where they have a name. */
 function namedCoefficients(line) {
   const parts = line.startsWith("expand") ? partsOf(textsOfWords(line)) : null, wordOf = (role) => parts.find((it) => it.role === role).words[0];

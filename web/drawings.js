@@ -1,4 +1,4 @@
-// Drawings of answers: diagrams of partitions, tableaux, growth grids.
+// Drawings of answers: diagrams of partitions, and tableaux.
 
 /** The side of a cell of a diagram, and the height of a cell with an entry. */
 const CELL = 16;
@@ -56,18 +56,12 @@ function tableauPicture(rows, inner, title, marks) {
 }
 
 function figure(drawing, caption) {
-  return element("figure", {}, drawing, ...(caption === undefined ? [] : [element("figcaption", {}, ...formula(caption))]));
+  return element("figure", {}, drawing, ...(caption === undefined ? [] : [element("figcaption", { "data-formula": caption }, ...formula(caption))]));
 }
 
 /** Two drawings of one term. */
 function pair(first, second) {
   return element("div", { class: "pair" }, first, element("span", {}, "⊗"), second);
-}
-
-/** The table of a growth grid. */
-function gridTable(rows) {
-  const line = (row) => element("tr", {}, ...row.map((label) => element("td", {}, diagram(label))));
-  return element("table", { class: "grid", "aria-label": "growth grid" }, ...rows.map(line));
 }
 
 /** The figures of an answer, one for each term or tableau, made as they are taken. */
@@ -93,8 +87,9 @@ function drawn(answer, text) {
   if (!answer || ["word", "number"].includes(answer.kind) || ["x", "S", "SS"].includes(answer.letter)) return null;
   const box = element("div", { class: "drawn", tabindex: "0", role: "group", "aria-label": "Drawings" });
   if (answer.kind === "grid") {
-    box.append(gridTable(answer.rows));
-    return box;
+    const n = answer.rows.length - 1, letters = crossesOfGrid(answer.rows).map(([, j]) => j).join(" ");
+    box.append(figure(growthPicture(answer.rows, n * n, `growth diagram of ${letters}`)));
+    return n * n > MOST_CELLS ? null : box;
   }
   const count = answer.names ? 2 : sizeOf(answer, text);
   let some = 0, cells = 0;

@@ -171,7 +171,7 @@ function askedNote(job, found) {
 function notesOf(job, isDone, told, error) {
   const { line, unread } = job, notes = told ? [note(unread && unread.said && unread.offers.length > 0 ? "unclear" : "said", told.sentence + (error ? ` (${error})` : ""))] : [];
   if (isDone && line === "batch") notes.push(note("note", "Here batch has no input. Type commands with ; between them."));
-  const outside = isDone ? [outsideBox(line), namedCoefficients(line).replace(/^: /, "The coefficients are ")].filter(Boolean).map((it) => note("note", ...formula(it))) : [];
+  const outside = isDone ? [outsideBox(line), reductionOf(line), namedCoefficients(line).replace(/^: /, "The coefficients are ")].filter(Boolean).map((it) => note("note", ...formula(it))) : [];
   return isDone ? [...notes, ...outside, ...(job.isQuestion ? meaningsOf(line) : []).map((it) => note("meaning", ...it))] : notes;
 }
 
@@ -239,7 +239,7 @@ function shownArticle(job, { status, text = "", time, stopped, why, error }) {
   if (text) article.append(...textOf(line, text, found ? found.isAsked : undefined), ...sum);
   if (stopped && why) article.append(note("note", `Press Run for the answer: ${why}.`));
   article.append(...notesOf(job, isDone, told, error), ...(told ? offersOf(job) : []), toolsOf(job, text, answer, found));
-  article.append(...picturesOf(line, answer, text));
+  article.append(...picturesOf(line, answer, text), ...(isDone ? theoremOf(line) : []));
   place(article);
   performance.mark("answer");
   const outcome = stopped ? "stopped" : told ? (unread && unread.said ? "not run" : "refused") : count || "done";
@@ -248,7 +248,10 @@ function shownArticle(job, { status, text = "", time, stopped, why, error }) {
 
 /** The drawings of an answer and its pictures step by step; a button for them, where many commands wait. */
 function picturesOf(line, answer, text) {
-  const made = () => [drawn(answer, text), ...steps(line, answer)].filter(Boolean);
+  const made = () => {
+    const box = drawn(answer, text);
+    return [...(box ? [box, toolsOfDrawings(box, line, answer)] : []), ...steps(line, answer)];
+  };
   if (waiting.length < 20) return made();
   return answer && drawn(answer, text) ? [button("Draw", (event) => event.target.replaceWith(...made()))] : [];
 }
