@@ -644,7 +644,7 @@ def undone(*where):
 
 # What is seen of the open page: texts in elements of these kinds, others, and whether something is wider than the page.
 SEEN = """const kinds = ".equation, .asked, .computed, .drawn, .wide", all = [...document.body.querySelectorAll("*")].filter((it) => it.checkVisibility() && [...it.childNodes].some((of) => of.nodeType === 3 && of.textContent.trim()));
-return [all.filter((it) => !it.closest(kinds)).map((it) => it.localName + it.textContent.slice(0, 30)), all.filter((it) => it.getBoundingClientRect().right > innerWidth + 1).map((it) => it.textContent.slice(0, 30)), [...document.querySelectorAll(".equation")].map((it) => it.querySelectorAll(".sum math").length), getComputedStyle(document.body).color]"""
+return [all.filter((it) => !it.closest(kinds)).map((it) => it.localName + it.textContent.slice(0, 30)), all.filter((it) => it.getBoundingClientRect().right > innerWidth + 1).map((it) => it.textContent.slice(0, 30)), [...document.querySelectorAll(".equation .sum")].map((it) => it.textContent.split(/ [+−] /).length), getComputedStyle(document.body).color]"""
 
 
 def printed_page(browser, path, size):
@@ -661,8 +661,7 @@ def printed_page(browser, path, size):
         others, wide, terms, ink = visit.ask(f"dispatchEvent(new Event('beforeprint')); {SEEN}")
         left = visit.ask("dispatchEvent(new Event('afterprint')); return document.querySelectorAll('.equation.long').length")
         pages = base64.b64decode(ask("Page.printToPDF")["data"]).count(b"/Type /Page\n")
-        # (each term is a piece, and so are those of an index that is long)
-        return wrong((others, []), (wide, []), (sorted(terms), [1, 7, 29, 503]), (ink, "rgb(0, 0, 0)"), (left, 0)) or ("" if 1 < pages <= 6 and len(empty) > 40000 else f"{pages} pages, {len(empty)}")
+        return wrong((others, []), (wide, []), (sorted(terms), [1, 7, 23, 503]), (ink, "rgb(0, 0, 0)"), (left, 0)) or ("" if 1 < pages <= 6 and len(empty) > 40000 else f"{pages} pages, {len(empty)}")
 
 
 # The lines whose drawings are taken along, with the number of sets of drawings: of the answer, and of each picture step by step.

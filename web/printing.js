@@ -10,7 +10,8 @@ function longEquation({ line, text }) {
   const answer = answerOf(line, text);
   if (answer?.kind !== "terms") return [];
   const count = answer.terms.length, isShort = count <= MOST_PRINTED;
-  const it = equation(line, isShort ? shownSum(answer.terms, answer.letter) : "..");
+  // (a browser takes much longer to place many pieces of MathML than indices)
+  const it = equation(line, isShort ? shownSum(answer.terms, answer.letter) : "..", formula);
   it.classList.add("long");
   return isShort ? [it] : [it, element("p", { class: "equation long" }, `It has ${count.toLocaleString("en")} terms, and at most ${MOST_PRINTED.toLocaleString("en")} are printed: the text of the answer can be downloaded.`)];
 }

@@ -189,10 +189,10 @@ function rightOf(answer, text) {
 }
 
 /** The equation of an answer: its left side, what was printed as a sum, and what holds for it. */
-function equation(line, right) {
+function equation(line, right, nodes = mathNodes) {
   const { left, where } = leftOf(line);
-  const sides = [element("span", { class: "left" }, ...mathNodes(left)), " ", element("span", { class: "sum" }, ...mathNodes(`= ${right}`))];
-  return element("p", { class: "equation math" }, ...sides, ...(where ? [element("span", { class: "where" }, ...mathNodes(where))] : []));
+  const sides = [element("span", { class: "left" }, ...nodes(left)), " ", element("span", { class: "sum" }, ...nodes(`= ${right}`))];
+  return element("p", { class: "equation math" }, ...sides, ...(where ? [element("span", { class: "where" }, ...nodes(where))] : []));
 }
 
 /** The latest answers that are not shown, since a hundred others will come: each its job and answer. */
