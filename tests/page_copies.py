@@ -250,6 +250,13 @@ DOCUMENT = r"""\documentclass{article}
 """
 
 
+def has_latex():
+    """Whether pdflatex is here with the packages that the copies name."""
+    packages = ("amsmath.sty", "ytableau.sty", "tikz.sty")
+    found = subprocess.run(["kpsewhich", *packages], capture_output=True, text=True).stdout.split() if shutil.which("pdflatex") else []
+    return len(found) == len(packages)
+
+
 def compiled(bodies):
     """What pdflatex says of a document with these pieces; nothing, if it makes one."""
     with tempfile.TemporaryDirectory() as room:
@@ -284,7 +291,7 @@ def tried(tally, build, printed, program):
     tally.count("copies: read back by the package", by_python(copies, program))
     tally.count("copies: read back as Sage's names", by_sage(copies))
     tally.count("copies: tables", by_csv(copies))
-    if shutil.which("pdflatex"):
+    if has_latex():
         tally.count("copies: LaTeX", by_latex(copies))
     else:
-        tally.skip("the LaTeX of answers", "pdflatex (texlive-latex-extra, texlive-pictures)")
+        tally.skip("the LaTeX of answers", "pdflatex (texlive-science, texlive-pictures)")

@@ -6,7 +6,6 @@ import functools
 import http.server
 import json
 import os
-import shutil
 import threading
 import urllib.parse
 import xml.etree.ElementTree
@@ -686,7 +685,7 @@ def taken_along(*where):
         growth = sorted(["∅"] * 9 + ["1"] * 4 + ["2", "1,1", "2,1"] + ["×"] * 3 + ["3", "1", "2"] + ["1", "2", "3"])
         pieces = [text for got in copied.values() for name, text in got if name == "Copy TikZ"]
         formulas = [f"$\n{text}\n$" for got in copied.values() for name, text in got if name == "Copy ytableau"]
-        said = page_copies.compiled(pieces + formulas) if shutil.which("pdflatex") else ""
+        said = page_copies.compiled(pieces + formulas) if page_copies.has_latex() else ""
         return wrong((texts(svgs["growth 3 1 2"][0]), growth), (texts(svgs["rsk 3 1 2"][0]), sorted("123132PQ")), (len(formulas), 5)) or said
 
 
