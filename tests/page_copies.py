@@ -110,7 +110,7 @@ def by_python(copies, program):
     made = "import json, sys\nfound = []\n"
     for it in copies:
         made += it["python"] + "found.append([[repr(label), str(c)] for label, c in answer.items()] if hasattr(answer, 'items') else str(answer))\n"
-    env = {**os.environ, "PYTHONPATH": f"{TOP}/python", "CALC": program, "PYTHONDONTWRITEBYTECODE": "1"}
+    env = {**os.environ, "PYTHONPATH": f"{TOP}/python", "YORQANISH_CALC": program, "PYTHONDONTWRITEBYTECODE": "1"}
     done = subprocess.run([sys.executable, "-c", made + "print(json.dumps(found))"], capture_output=True, text=True, env=env)
     if done.returncode:
         return done.stderr[-600:]
