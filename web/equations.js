@@ -72,6 +72,8 @@ const latexOfFormula = (text) => latexMath(mathOf(text));
 const BETWEEN = ["=", "+", "−", "·", "⊗", "*"];
 /** The most characters of a piece in MathML, which has no place to break; a longer one is set low and high as text is. */
 const LONGEST_PIECE = 40;
+/** The longest text that is written in MathML: a browser takes some milliseconds to place a piece. */
+const LONGEST_MATH = 4000;
 
 /** A row of nodes as nodes of MathML. Blanks stay beside the signs, where they are not seen. */
 function mathMLRow(nodes) {
@@ -103,6 +105,7 @@ function plainRow(nodes) {
 
 /** A text of the notation as words and pieces of MathML, with a place to break a line between them. */
 function mathNodes(text) {
+  if (text.length > LONGEST_MATH) return formula(text);
   const nodes = mathOf(text), made = [];
   let row = [], depth = 0;
   const flush = () => {
