@@ -1,5 +1,5 @@
 """What the page copies of an answer, read back: LaTeX by pdflatex, Python by the package, Sage by a stand-in for the names that Sage has, and tables by
-Python's csv. Each reader has to come to the list that the program printed. `readers(build, printed)` gives them for the scripts of a page."""
+Python's csv. Each reader has to come to the list that the program printed; `tried` counts them for the scripts of a page."""
 import csv
 import io
 import json

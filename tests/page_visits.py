@@ -586,9 +586,11 @@ def origins(browser, path, size):
         first = visit.answers()
         visit.run("rsk 1")
         after = visit.ask("return at('origin').hidden")
+    with Visit(browser, path, size, fragment=fragment(HEAVY) + "&version=0.0.1&module=00ff00ff00ff") as visit:
+        heavy = visit.ask("const waits = !at('origin').hidden; at('run').click(); await until(() => running); stop(); await quiet(); return [waits, !at('origin').hidden, answers().length]")
     with Visit(browser, path, size, "#" + own.split("#")[1]) as visit:
         same = visit.ask("return [at('origin').hidden, answers()]")
-    return wrong((origin, [False, said]), (first, [["coef 1 - 1 -", "1\n"]]), (after, True), (same, [True, first]))
+    return wrong((origin, [False, said]), (first, [["coef 1 - 1 -", "1\n"]]), (after, True), (heavy, [True, True, 1]), (same, [True, first]))
 
 
 def links_of_files(browser, path, size):

@@ -65,7 +65,8 @@ const addressOf = ({ typed, line, asked: more }) => (more ? typed : line);
 
 /** Puts lines into the page's address; as a step of the way back, if they are new. */
 function putInAddress(lines, isNew = false) {
-  showOrigin({});
+  // (of a link that waited for Enter the origin is still said)
+  if (lines !== textOfAddress()) showOrigin({});
   const hash = `#${encodeURIComponent(lines)}`, isStep = isNew && hash !== location.hash;
   try {
     if (lines.length < 8000) history[isStep ? "pushState" : "replaceState"](null, "", hash);
