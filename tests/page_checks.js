@@ -90,7 +90,7 @@
     async readings(lines) {
       const read = (it, i) => {
         const isRefused = it.className === "refused";
-        return [lines[i], isRefused ? null : textsOf("h3", it)[0], isRefused ? "" : textsOf(".computed", it).join(""), all("[data-line]", it).map((of) => of.dataset.line), formulasOf(".asked", it).join("").split(" = ")[0]];
+        return [lines[i], isRefused ? null : textsOf("h3", it)[0], isRefused ? "" : textsOf(".computed", it).join(""), all(".offers [data-line], .offer [data-line]", it).map((of) => of.dataset.line), formulasOf(".asked", it).join("").split(" = ")[0]];
       };
       return (await answersTo(lines)).map(read);
     },

@@ -530,13 +530,13 @@ def marked(*where):
     """What is marked in a formula is copied as it looks; a copied left side is read again as the line."""
     with Visit(*where) as visit:
         copied = """globalThis.copied = (it) => { getSelection().selectAllChildren(it); if (it.localName.startsWith("m")) getSelection().setBaseAndExtent(it.parentNode, [...it.parentNode.childNodes].indexOf(it), it.parentNode, [...it.parentNode.childNodes].indexOf(it) + 1);
-        const event = new ClipboardEvent("copy", { clipboardData: new DataTransfer(), bubbles: true, cancelable: true }); document.activeElement.blur(); document.querySelector("article").dispatchEvent(event); return event.clipboardData.getData("text/plain").replace(/\\s+/g, " ").trim(); }"""
+        const event = new ClipboardEvent("copy", { clipboardData: new DataTransfer(), bubbles: true, cancelable: true }); document.activeElement.blur(); document.querySelector("article").dispatchEvent(event); globalThis.rich = event.clipboardData.getData("text/html"); return event.clipboardData.getData("text/plain").replace(/\\s+/g, " ").trim(); }"""
         visit.ask(copied)
         for line, what, text in MARKED:
             visit.run(line)
             got = visit.ask(f"return copied(document.querySelector('article').querySelector({json.dumps(what)}))")
-            if got != text:
-                return f"{line}: {got!r}, not {text!r}"
+            if got != text or visit.ask("return /<m(ath|sub)/.test(rich)") != (text != ""):
+                return f"{line}: {got!r}, not {text!r}, or no formula for a word processor"
         for line in ("mult 2 1 - 2 1", "schubmult 1 3 2 - 2 1 3", "skew 3 2 1 / 2 1", "stanley -r 2 2 1 4 3"):
             visit.run(line)
             back = visit.ask("const text = copied(document.querySelector('article .computed')); return [text, readTyped(text).line]")

@@ -33,9 +33,10 @@ at("line").onkeydown = (event) => {
 document.addEventListener("copy", (event) => {
   const selection = getSelection(), field = document.activeElement;
   if (selection.isCollapsed || field.selectionStart !== undefined) return;
-  const part = selection.getRangeAt(0).cloneContents(), text = markedText(part);
+  const part = () => selection.getRangeAt(0).cloneContents(), text = markedText(part());
   if (text === "") return;
   event.clipboardData.setData("text/plain", text);
+  event.clipboardData.setData("text/html", element("div", {}, part()).innerHTML);
   event.preventDefault();
 });
 
