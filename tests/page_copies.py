@@ -282,6 +282,35 @@ def examples(build, printed):
     return str(missing or "")
 
 
+def latex_label(text):
+    """The numbers of the labels of a term in LaTeX, with its power of q, if it has one."""
+    indices = [label(it.replace("\\emptyset", "()")) for it in re.findall(r"(?:[mehps]|\\sigma)_\{(\([\d,]*\)|\\emptyset)\}", text)]
+    letters = [tuple(map(int, it.split(",") if "," in it else it)) for it in re.findall(r"\\mathfrak\{S\}_\{([\d,]+)\}", text)]
+    powers = {int(i): int(e or 1) for i, e in re.findall(r"[xy]_\{(\d+)\}(?:\^\{(\d+)\})?", text)}
+    monomial = tuple(powers.get(i, 0) for i in range(1, max(powers, default=0) + 1))
+    return tuple(indices or letters), monomial
+
+
+def by_latex_read(copies):
+    """The right side of the copied LaTeX, read by another reader, is the list that was printed."""
+    for it in copies:
+        if not is_of_terms(it["line"]):
+            continue
+        name, right = it["line"].split()[0], it["latex"].split(" = ", 1)[1].split("\\quad")[0].replace("\n", " ")
+        got = []
+        for sign, text in re.findall(r"(?:^|\s)([+-]?)\s*((?:[^\s+-]|\s+(?![+-]))+)", right):
+            number = re.match(r"\\frac\{(\d+)\}\{(\d+)\}|(\d+)", text)
+            size = Fraction(1) if not number else Fraction(int(number[1]), int(number[2])) if number[1] else Fraction(number[3])
+            labels, monomial = latex_label(text)
+            power = re.search(r"(?<![a-z\\])q(?:\^\{(\d+)\})?", text)
+            key = (monomial,) if name == "schubert" else (*labels, monomial) if name == "dschubmult" else labels
+            key = ((int(power[1] or 1) if power else 0,) if name == "quantum" else ()) + key
+            got += [(key, -size if sign == "-" else size)] if text.strip() != "0" else []
+        if got != printed_terms(it["text"]):
+            return f"{it['line']}: {got}, not {printed_terms(it['text'])}"
+    return ""
+
+
 def tried(tally, build, printed, program):
     """All readers, counted."""
     copies = copies_of(build, LINES, printed)
@@ -291,6 +320,7 @@ def tried(tally, build, printed, program):
     tally.count("copies: read back by the package", by_python(copies, program))
     tally.count("copies: read back as Sage's names", by_sage(copies))
     tally.count("copies: tables", by_csv(copies))
+    tally.count("copies: LaTeX read back", by_latex_read(copies))
     if has_latex():
         tally.count("copies: LaTeX", by_latex(copies))
     else:

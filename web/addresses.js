@@ -27,11 +27,7 @@ function copyLink(text) {
 }
 
 /** The button that copies a link, beside other copies. */
-function linkButton(text) {
-  const it = button("", () => copyLink(text));
-  it.append(element("span", { class: "unseen" }, "Copy "), isLocal() ? "local link" : "link");
-  return it;
-}
+const linkButton = (text) => copyButton(isLocal() ? "local link" : "link", () => copyLink(text));
 
 /** Gives the page the title of what is shown, or its own. */
 function entitle(what = "") {

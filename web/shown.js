@@ -307,23 +307,28 @@ function transcript() {
   return kept.map(({ line, text }) => `$ calc ${line}\n${text}`);
 }
 
-/** The buttons of an answer. What they copy is made when they are pressed. */
-function toolsOf({ line, typed, asked }, text, answer, found) {
-  const tools = element("div", { class: "tools" }, element("span", { "aria-hidden": "true" }, "Copy"));
-  const add = (name, made, what) => {
-    const it = button("", () => copy(made(), what));
-    it.append(element("span", { class: "unseen" }, "Copy "), name.replace("Copy ", ""));
-    tools.append(it);
-  };
-  const whole = () => answerOf(line, text);
-  if (text) add("Copy text", () => text, "Text");
-  if (found) add("Copy the value as LaTeX", () => latexOfFormula(`${computedBy(line, asked)} = ${found.value}`), "LaTeX");
-  if (answer) add("Copy LaTeX", () => latexOf(whole(), line), "LaTeX");
-  if (answer && sageOf(answer, line) !== null) add("Copy for Sage", () => sageOf(whole(), line), "Text for Sage");
-  if (answer) add("Copy for Python", () => pythonOf(whole(), line), "Text for Python");
-  if (answer) add("Copy CSV", () => asCSV(sheetOf(whole())), "CSV");
-  if (answer) add("Copy TSV", () => asTSV(sheetOf(whole())), "TSV");
-  tools.append(linkButton(addressOf({ typed, line, asked })));
+/** A button beside the word "Copy", which is a part of its name. */
+function copyButton(name, action) {
+  const it = button("", action);
+  it.append(element("span", { class: "unseen" }, "Copy "), name);
+  return it;
+}
+
+/** A row of buttons that copy: of each its name, what makes the text when it is pressed, and what that is called. */
+function copyTools(copies) {
+  const one = ([name, made, what]) => copyButton(name, () => copy(made(), what));
+  return element("div", { class: "tools" }, element("span", { "aria-hidden": "true" }, "Copy"), ...copies.map(one));
+}
+
+/** The buttons of an answer. */
+function toolsOf(job, text, answer, found) {
+  const { line } = job, whole = () => answerOf(line, text), copies = text ? [["text", () => text, "Text"]] : [];
+  if (found) copies.push(["the value as LaTeX", () => latexOfFormula(`${computedBy(line, job.asked)} = ${found.value}`), "LaTeX"]);
+  if (answer) copies.push(["LaTeX", () => latexOf(whole(), line), "LaTeX"]);
+  if (answer && sageOf(answer, line) !== null) copies.push(["for Sage", () => sageOf(whole(), line), "Text for Sage"]);
+  if (answer) copies.push(["for Python", () => pythonOf(whole(), line), "Text for Python"], ["CSV", () => asCSV(sheetOf(whole())), "CSV"], ["TSV", () => asTSV(sheetOf(whole())), "TSV"]);
+  const tools = copyTools(copies);
+  tools.append(linkButton(addressOf(job)));
   return tools;
 }
 
