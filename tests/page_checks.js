@@ -2,6 +2,13 @@
 (() => {
   const all = (what, of = document) => [...of.querySelectorAll(what)];
   const textsOf = (what, of) => all(what, of).map((it) => it.textContent);
+  /** The text of a formula, with what is set high before what is set low. */
+  const formulasOf = (what, of) =>
+    all(what, of).map((it) => {
+      const copy = it.cloneNode(true);
+      for (const both of all("msubsup", copy)) both.append(both.children[1]);
+      return copy.textContent;
+    });
 
   const run = (text) => {
     at("line").value = text;
@@ -83,7 +90,7 @@
     async readings(lines) {
       const read = (it, i) => {
         const isRefused = it.className === "refused";
-        return [lines[i], isRefused ? null : textsOf("h3", it)[0], isRefused ? "" : textsOf(".computed", it).join(""), all("[data-line]", it).map((of) => of.dataset.line), textsOf(".asked", it).join("").split(" = ")[0]];
+        return [lines[i], isRefused ? null : textsOf("h3", it)[0], isRefused ? "" : textsOf(".computed", it).join(""), all(".offers [data-line], .offer [data-line]", it).map((of) => of.dataset.line), formulasOf(".asked", it).join("").split(" = ")[0]];
       };
       return (await answersTo(lines)).map(read);
     },
@@ -168,7 +175,7 @@
       const named = async (line) => all(".drawn [role=img]", await answer(line)).map((it) => it.getAttribute("aria-label"));
       const found = [];
       for (const line of ["mult 3 2 1 -", "mult -", "rsk 3 1 2"]) found.push(...(await named(line)));
-      ok("each drawing has a name", all("svg, .drawn table").every((it) => it.getAttribute("aria-label")));
+      ok("each drawing has a name", all("svg").every((it) => it.getAttribute("aria-label")));
       return [names, found];
     },
 
@@ -195,7 +202,7 @@
         press(await answer(line), name);
         await got();
       }
-      press(all("article")[0], "Copy link");
+      press(all("article")[0], "Copy local link");
       await got();
       at("cite").click();
       await got();

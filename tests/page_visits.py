@@ -1,14 +1,17 @@
 """The visits of tests/page, each to a page of its own: addresses, reloads, lists of commands, and the limits of an address. A visit gets the
 browser, the page's path, and its size, and returns a text of the faults that it found, "" if there are none. All pages are opened in one browser,
 each with a storage of its own."""
+import base64
 import functools
 import http.server
 import json
 import os
 import threading
 import urllib.parse
+import xml.etree.ElementTree
 
 from browse import WAITS
+import page_copies
 
 HEAVY = "mult 9 8 7 6 5 4 3 2 1 - 9 8 7 6 5 4 3 2 1 - 9 8 7 6 5 4 3 2 1"
 LARGE = "mult 8 6 5 4 3 2 1 - 6 5 4 3 2 1"
@@ -428,7 +431,7 @@ def asked_for(*where):
     with Visit(*where) as visit:
         for typed, said, marked in ASKED:
             visit.run(typed)
-            script = "const it = document.querySelector('article'); return [it.querySelector('.asked').textContent, [...it.querySelectorAll('pre .asked-line')].map((of) => of.textContent.trim()), it.querySelector('pre').textContent === kept[kept.length - 1].text]"
+            script = "const it = document.querySelector('article'); it.querySelectorAll('.asked msubsup').forEach((of) => of.append(of.children[1])); return [it.querySelector('.asked').textContent, [...it.querySelectorAll('pre .asked-line')].map((of) => of.textContent.trim()), it.querySelector('pre').textContent === kept[kept.length - 1].text]"
             got = visit.ask(script)
             if got != [said, marked, True]:
                 return f"{typed}: {got}"
@@ -511,4 +514,220 @@ def long_line(*where):
         return wrong((got, [[True, "The line has more than 65,536 characters, the most that are read here."]] * 3))
 
 
-VISITS = [asked_for, first_reading, names_given, early_enter, late_failure, forgotten, other_tab, half_typed, long_line, back, reload, heavy_link, powers_link, lines_link, next_links, unseen_link, several_readings_link, draft, fresh_field, transcript, show_more, thousands, cleared, help_asked, offers, forms, tables, pictures, memory, little_memory, installed]
+# What is marked of an answer, by a selector, and how it is copied.
+MARKED = [
+    ("schubert 2 1 4 3", ".equation", "S_2143 = x_1^2 + x_1 x_2 + x_1 x_3"),
+    ("schubert 1 3 2", ".equation .sum math:last-child msub", "x_2"),
+    ("quantum 2 2 2 1 - 2 1", ".equation .sum", "= q σ_(2) + q σ_(1,1)"),
+    ("expand p s[2,1]", ".equation", "s_(2,1) = −1/3 p_(3) + 1/3 p_(1,1,1)"),
+    ("coef 3 2 1 - 2 1 - 2 1", ".equation", "c_{(2,1),(2,1)}^(3,2,1) = 2"),
+    ("K_{(3,1),(1^4)}", ".asked", "K_{(3,1),(1,1,1,1)} = 3"),
+    ("mult 2 1 -", "pre", ""),
+]
+
+
+def marked(*where):
+    """What is marked in a formula is copied as it looks; a copied left side is read again as the line."""
+    with Visit(*where) as visit:
+        copied = """globalThis.copied = (it) => { getSelection().selectAllChildren(it); if (it.localName.startsWith("m")) getSelection().setBaseAndExtent(it.parentNode, [...it.parentNode.childNodes].indexOf(it), it.parentNode, [...it.parentNode.childNodes].indexOf(it) + 1);
+        const event = new ClipboardEvent("copy", { clipboardData: new DataTransfer(), bubbles: true, cancelable: true }); document.activeElement.blur(); document.querySelector("article").dispatchEvent(event); globalThis.rich = event.clipboardData.getData("text/html"); return event.clipboardData.getData("text/plain").replace(/\\s+/g, " ").trim(); }"""
+        visit.ask(copied)
+        for line, what, text in MARKED:
+            visit.run(line)
+            got = visit.ask(f"return copied(document.querySelector('article').querySelector({json.dumps(what)}))")
+            if got != text or visit.ask("return /<m(ath|sub)/.test(rich)") != (text != ""):
+                return f"{line}: {got!r}, not {text!r}, or no formula for a word processor"
+        for line in ("mult 2 1 - 2 1", "schubmult 1 3 2 - 2 1 3", "skew 3 2 1 / 2 1", "stanley -r 2 2 1 4 3"):
+            visit.run(line)
+            back = visit.ask("const text = copied(document.querySelector('article .computed')); return [text, readTyped(text).line]")
+            if back[1] != line:
+                return f"{line}: {back}"
+        return ""
+
+
+def equations(browser, path, size):
+    """An equation is MathML: its parts have the places of a formula, and a reader of the screen is told so. A long index can break."""
+    with Visit(browser, path, size) as visit:
+        visit.run("schubert 2 1 4 3")
+        parts = "const it = document.querySelector('article .equation'); return [it.querySelectorAll('math').length, it.querySelectorAll('msub').length, it.querySelectorAll('msup, msubsup').length, it.querySelectorAll('sub, sup').length, it.querySelector('math').namespaceURI]"
+        got = visit.ask(parts)
+        low = visit.ask("const of = document.querySelector('article .equation msub'), [base, index] = [...of.children].map((it) => it.getBoundingClientRect()); return index.bottom > base.bottom && index.height < base.height * 1.2")
+        told = []
+        if browser.name == "chromium":
+            nodes = visit.page.channel.ask("Accessibility.getFullAXTree")["nodes"]
+            told = sorted({it["role"]["value"] for it in nodes if "Math" in it["role"]["value"]})
+        visit.run("mult " + "1 " * 200 + "-")
+        wide = visit.ask("const it = document.querySelector('article .equation'); return it.scrollWidth <= it.clientWidth + 1")
+        return wrong((got, [4, 5, 1, 0, "http://www.w3.org/1998/Math/MathML"]), (low, True), (wide, True)) or ("" if not told or {"MathMLMath", "MathMLSub"} <= set(told) else str(told))
+
+
+TITLE = "calc: Schubert calculus and symmetric functions"
+
+
+def back_and_forward(*where):
+    """Each answer is a step of the way back, has a title, and is shown again without being computed again."""
+    with Visit(*where) as visit:
+        for line in ("coef 1 - 1 -", "mult 1 - 1; rsk 2 1"):
+            visit.run(line)
+        state = "return [document.title, document.activeElement.dataset.of || '', answers().length]"
+        steps = [visit.ask(state)[0]]
+        for way in ("back", "forward"):
+            steps.append(visit.ask(f"await went(() => history.{way}()); await quiet(); {state}"))
+        steps.append(visit.ask(f"await went(() => history.back()); await went(() => history.back()); await quiet(); {state}")[::2])
+        return wrong((steps, ["rsk 2 1 – calc", ["coef 1 - 1 - – calc", "coef 1 - 1 -", 3], ["mult 1 - 1 – calc", "mult 1 - 1", 3], [TITLE, 3]]))
+
+
+def origins(browser, path, size):
+    """A link has the version and the sum of the module; what is shown of a link with others says so."""
+    with Visit(browser, path, size, fragment("coef 1 - 1 -") + "&version=0.0.1&module=00ff00ff00ff") as visit:
+        own, origin = visit.ask("return [linkTo('coef 1 - 1 -'), [at('origin').hidden, at('origin').textContent]]")
+        version, sum = own.split("&version=")[1].split("&module=")
+        said = f"This link was made with calc 0.0.1, module 00ff00ff00ff; what is shown here is computed by calc {version}, module {sum}."
+        first = visit.answers()
+        visit.run("rsk 1")
+        after = visit.ask("return at('origin').hidden")
+    with Visit(browser, path, size, fragment=fragment(HEAVY) + "&version=0.0.1&module=00ff00ff00ff") as visit:
+        heavy = visit.ask("const waits = !at('origin').hidden; at('run').click(); await until(() => running); stop(); await quiet(); return [waits, !at('origin').hidden, answers().length]")
+    with Visit(browser, path, size, "#" + own.split("#")[1]) as visit:
+        same = visit.ask("return [at('origin').hidden, answers()]")
+    return wrong((origin, [False, said]), (first, [["coef 1 - 1 -", "1\n"]]), (after, True), (heavy, [True, True, 1]), (same, [True, first]))
+
+
+def links_of_files(browser, path, size):
+    """A link that is copied from a file says that it is local; if the page has a copy on a server, it leads there."""
+    press = """let copied; Object.defineProperty(navigator, "clipboard", { configurable: true, value: { writeText: async (text) => (copied = text) } });
+    const it = [...document.querySelectorAll("article button")].find((of) => of.textContent.endsWith("link")); it.click(); await pause(50); return [it.textContent, copied.split("&")[0], at("state").textContent]"""
+    served = os.path.join(os.path.dirname(path), "served.html")
+    with open(path, encoding="utf-8") as file, open(served, "w", encoding="utf-8") as other:
+        other.write(file.read().replace('data-base=""', 'data-base="https://example.org/calc.html"'))
+    found = []
+    for it in (path, served):
+        with Visit(browser, it, size) as visit:
+            visit.run("K_{(3,1),(1^4)}")
+            found.append(visit.ask(press))
+    typed = urllib.parse.quote("K_{(3,1),(1^4)}", safe="()!*'")
+    local = ["Copy local link", f"file://{path}#{typed}", "A local link, which opens this file on this machine only, was copied."]
+    return wrong((found, [local, ["Copy link", f"https://example.org/calc.html#{typed}", "Link copied."]]))
+
+
+def linked_table(*where):
+    """A table has an address and a title, and is made by its link; a link that asks for a table that is none runs nothing."""
+    with Visit(*where, fragment("table characters 3") + "&version=x&module=0") as visit:
+        got = visit.ask("return [document.querySelectorAll('.made tr').length, document.title, at('origin').hidden, at('kind').value]")
+        link = visit.ask("return [...document.querySelectorAll('#made button')].some((it) => it.textContent.endsWith('link'))")
+        visit.run("coef 1 - 1 -")
+        back = visit.ask("await went(() => history.back()); await quiet(); return [document.title, decodeURIComponent(location.hash)]")
+    with Visit(*where, fragment("table characters 10")) as visit:
+        none = visit.ask("return document.querySelectorAll('.made tr').length")
+    title = "Characters of the symmetric group S_n, n = 3 – calc"
+    return wrong((got, [4, title, False, "characters"]), (link, True), (back, [title, "#table characters 3"]), (none, 0))
+
+
+def undone(*where):
+    """What was cleared, forgotten or removed comes back, the latest first."""
+    with Visit(*where) as visit:
+        visit.run("coef 1 - 1 -; coef 2 - 1 - 1")
+        state = "[answers().map(([line]) => line), kept.length, [...asked], at('history').hidden, decodeURIComponent(location.hash)]"
+        before = visit.ask(f"return {state}")
+        gone = visit.ask(f"at('clean').click(); at('forget').click(); return {state}")
+        titles = visit.ask("const seen = [at('undo').title]; at('undo').click(); seen.push(at('undo').title); at('undo').click(); return [...seen, at('undo').hidden]")
+        after = visit.ask(f"return {state}")
+        lists = visit.ask(f"""ask({json.dumps(HEAVY)}); ask("rsk 1; rsk 2; rsk 3"); await until(() => running); const lines = () => waiting.map((it) => it.line);
+        document.querySelectorAll("#waiting button")[1].click(); const removed = lines(); at("undo").click(); const back = lines(); at("clear").click(); const none = lines();
+        at("undo").click(); const all = lines(); stop(); await quiet(); return [removed, back, none, all, answers().length, at("state").textContent]""")
+        visit.run("rsk 4")
+        three = ["rsk 1", "rsk 2", "rsk 3"]
+        return wrong(
+            (gone, [[], 0, [], True, ""]), (titles, ["Brings back the earlier commands", "Brings back the answers", True]), (after, before),
+            (lists, [["rsk 1", "rsk 3"], three, [], three, 6, "4 commands: 3 answered and 1 stopped."]), (visit.answers()[0][0], "rsk 4"),
+        )
+
+
+# What is seen of the open page: texts in elements of these kinds, others, and whether something is wider than the page.
+SEEN = """const kinds = ".equation, .asked, .computed, .drawn, .wide", all = [...document.body.querySelectorAll("*")].filter((it) => it.checkVisibility() && [...it.childNodes].some((of) => of.nodeType === 3 && of.textContent.trim()));
+return [all.filter((it) => !it.closest(kinds)).map((it) => it.localName + it.textContent.slice(0, 30)), all.filter((it) => it.getBoundingClientRect().right > innerWidth + 1).map((it) => it.textContent.slice(0, 30)), [...document.querySelectorAll(".equation .sum")].map((it) => it.textContent.split(/ [+−] /).length), getComputedStyle(document.body).color]"""
+
+
+def printed_page(browser, path, size):
+    """Printed are the equations, whole, in black, and nothing else: also of an answer that is too long to be shown as one; without answers the page."""
+    if browser.name != "chromium":
+        return ""
+    with Visit(browser, path, size) as visit:
+        ask = visit.page.channel.ask
+        empty = ask("Page.printToPDF")["data"]
+        for line in ("mult 2 1 - 2 1", "mult 1 2 - 1", "mult 5 4 3 2 1 - 4 3 2 1", "tab 2 1 / 1", "schubert " + " ".join(map(str, range(16, 0, -1))), "expand m s[5,4]"):
+            visit.run(line)
+        ask("Emulation.setEmulatedMedia", media="print", features=[{"name": "prefers-color-scheme", "value": "dark"}])
+        ask("Emulation.setDeviceMetricsOverride", width=640, height=900, deviceScaleFactor=1, mobile=False)
+        others, wide, terms, ink = visit.ask(f"dispatchEvent(new Event('beforeprint')); {SEEN}")
+        left = visit.ask("dispatchEvent(new Event('afterprint')); return document.querySelectorAll('.equation.long').length")
+        pages = base64.b64decode(ask("Page.printToPDF")["data"]).count(b"/Type /Page\n")
+        return wrong((others, []), (wide, []), (sorted(terms), [1, 7, 23, 503]), (ink, "rgb(0, 0, 0)"), (left, 0)) or ("" if 1 < pages <= 6 and len(empty) > 40000 else f"{pages} pages, {len(empty)}")
+
+
+# The lines whose drawings are taken along, with the number of sets of drawings: of the answer, and of each picture step by step.
+TAKEN = [("growth 3 1 2", 2), ("mult 2 1 - 2 1", 1), ("coprod 2 1", 1), ("quantum 2 2 2 1 - 2 1", 1), ("expand p s[2,1]", 1), ("rsk 3 1 2", 2), ("tab 3 2 1 / 2 1", 2), ("rect 2 2 / 1 - 1 / 1 2", 2), ("schubert 2 1 4 3", 2), ("mult -", 1)]
+
+
+def taken_along(*where):
+    """Drawings are copied as SVG, which is XML with all their cells and letters, and as TikZ and ytableau, which pdflatex compiles."""
+    with Visit(*where) as visit:
+        visit.ask("globalThis.got = []; Object.defineProperty(navigator, 'clipboard', { configurable: true, value: { writeText: async (text) => void got.push(text) } })")
+        copied = {}
+        for line, count in TAKEN:
+            visit.run(line)
+            got = visit.ask("""got.length = 0; const all = [...document.querySelector("article").querySelectorAll(".tools button")].filter((it) => /^Copy (SVG|TikZ|ytableau)$/.test(it.textContent));
+            for (const it of all) it.click(), await pause(20); return all.map((it, i) => [it.textContent, got[i]])""")
+            copied[line] = got
+            if [name for name, _ in got].count("Copy SVG") != count:
+                return f"{line}: {[name for name, _ in got]}"
+        svgs = {line: [xml.etree.ElementTree.fromstring(text) for name, text in got if name == "Copy SVG"] for line, got in copied.items()}
+        texts = lambda svg: sorted(it.text for it in svg.iter("{http://www.w3.org/2000/svg}text"))
+        # (at the corners of the grid of 3 1 2 are nine empty shapes and four of one cell; a letter at each row, a number at each column, and three crosses)
+        growth = sorted(["∅"] * 9 + ["1"] * 4 + ["2", "1,1", "2,1"] + ["×"] * 3 + ["3", "1", "2"] + ["1", "2", "3"])
+        pieces = [text for got in copied.values() for name, text in got if name == "Copy TikZ"]
+        formulas = [f"$\n{text}\n$" for got in copied.values() for name, text in got if name == "Copy ytableau"]
+        said = page_copies.compiled(pieces + formulas) if page_copies.has_latex() else ""
+        return wrong((texts(svgs["growth 3 1 2"][0]), growth), (texts(svgs["rsk 3 1 2"][0]), sorted("123132PQ")), (len(formulas), 5)) or said
+
+
+def growth_steps(*where):
+    """A growth diagram has the crosses and letters of the permutation, and grows cell by cell to what is printed."""
+    with Visit(*where) as visit:
+        visit.run("growth 3 1 2")
+        got = visit.ask("""const it = document.querySelector("article .steps"), range = it.querySelector("input"), said = [];
+        for (let n = 1; n <= Number(range.max); n += 1) { range.value = String(n); range.oninput(); said.push(it.querySelector(".step-caption").textContent); }
+        return [said, it.querySelector("[role=img]").getAttribute("aria-label"), document.querySelector("article .drawn [role=img]").getAttribute("aria-label")]""")
+        said = [
+            *["Row 1, column 1: nothing changes.", "Row 1, column 2: nothing changes.", "Row 1, column 3: a cross: a cell more in the first row."],
+            *["Row 2, column 1: a cross: a cell more in the first row.", "Row 2, column 2: the shapes above and on the left are different: their union."],
+            *["Row 2, column 3: both grow in row 1: a cell more in row 2.", "Row 3, column 1: the shapes above and on the left are different: their union."],
+            *["Row 3, column 2: a cross: a cell more in the first row.", "Row 3, column 3: the shapes above and on the left are different: their union."],
+        ]
+        return wrong(([it.split(". ", 1)[1] for it in got[0]], said), (got[1:], ["growth diagram of 3 1 2, up to row 3, column 3", "growth diagram of 3 1 2"]))
+
+
+# What is said below an answer of what is proved: the line, and parts of the text.
+PROVED = [
+    ("quantum 2 2 2 1 - 2 1", ["That this is the product in QH*(Gr(K, K+C)) is a theorem, which is not proved here.", "Bertram, Ciocan-Fontanine and Fulton"]),
+    ("fusion 3 2 2 1 - 2 1", ["is a theorem, which is not proved here", "Kac and Walton"]),
+    ("mult 2 1 - 1", ["The printed list has all terms", "Littlewood–Richardson rule", "Stembridge"]),
+]
+
+
+def theorems(*where):
+    """Beside an answer stands, folded, what is proved of it; of quantum and fusion products it is said in sight that a theorem makes the reduction the product."""
+    with Visit(*where) as visit:
+        for line, parts in PROVED:
+            visit.run(line)
+            text, is_open, notes = visit.ask("const it = document.querySelector('article .theorem'); return [it.textContent, it.open, [...document.querySelectorAll('article')[0].querySelectorAll('.note')].map((of) => of.textContent)]")
+            missing = [it for it in parts if it not in text]
+            if missing or is_open or ("Proved is that this is" in " ".join(notes)) != line.startswith(("quantum", "fusion")):
+                return f"{line}: {missing} in {text}; {notes}"
+        said = visit.ask("ask('quantum 2 2 2 1 - 2 1'); await quiet(); return [...document.querySelector('article').querySelectorAll('.note')].map((it) => it.textContent)")
+        wanted = "Proved is that this is the product in K variables, reduced by rim hooks. That it is the product in QH*(Gr(2,4)) is a theorem of Bertram, Ciocan-Fontanine and Fulton."
+        run = visit.ask("document.querySelector('article .theorem').open = true; document.querySelector('article .theorem [data-line]').click(); await quiet(); return answers()[0]")
+        return wrong((wanted in said, True), (run, ["quantum 1 1 1 - 1", "1  q^1  ()\n"]))
+
+
+VISITS = [taken_along, growth_steps, theorems, printed_page, back_and_forward, origins, links_of_files, linked_table, undone, marked, equations, asked_for, first_reading, names_given, early_enter, late_failure, forgotten, other_tab, half_typed, long_line, back, reload, heavy_link, powers_link, lines_link, next_links, unseen_link, several_readings_link, draft, fresh_field, transcript, show_more, thousands, cleared, help_asked, offers, forms, tables, pictures, memory, little_memory, installed]

@@ -1,4 +1,4 @@
-// Answers as values, and as LaTeX and Sage.
+// Answers as values, and as LaTeX.
 
 const BASIS = /^[mehps]$/;
 
@@ -8,7 +8,7 @@ function numbers(label) {
 }
 
 /**
- * What an answer is: a list of terms with the letter of its labels, tableaux, a growth grid, a word;
+ * What an answer is: a number, a list of terms with the letter of its labels, tableaux, a growth grid, a word;
  * null if it is none of these.
  */
 function answerOf(line, text) {
@@ -19,7 +19,8 @@ function answerOf(line, text) {
   if (name === "tab") return tableaux(text === "0\n" ? [] : lines, innerOf(words));
   if (name === "growth") return { kind: "grid", rows: lines.map((it) => it.split(" ").map(numbers)) };
   if (name === "unrsk") return { kind: "word", letters: lines[0].split(" ").filter(Boolean) };
-  const block = name === "coef" ? null : termsOf(text), terms = block || oneLineTermsOf(text);
+  if (name === "coef") return /^\d+\n$/.test(text) ? { kind: "number", value: lines[0] } : null;
+  const block = termsOf(text), terms = block || oneLineTermsOf(text);
   return terms && { kind: "terms", letter: letterOf(words), terms, isOneLine: !block };
 }
 
@@ -82,43 +83,17 @@ function countOf(answer, text) {
 
 // ---- LaTeX
 
-/** A coefficient in LaTeX, and whether it is negative. */
-function latexNumber(c) {
-  const negative = c.startsWith("-"), size = negative ? c.slice(1) : c;
-  const [over, under] = size.split("/");
-  return { negative, text: under ? `\\frac{${over}}{${under}}` : over === "1" ? "" : over };
-}
-
-function monomial(letter, exponents) {
-  const powers = exponents.map((e, i) => ({ e, variable: `${letter}_{${i + 1}}` })).filter(({ e }) => e > 0);
-  return powers.map(({ e, variable }) => (e === 1 ? variable : `${variable}^{${e}}`)).join(" ");
-}
+/** The terms on one line of LaTeX. (TeX reads no line of any length.) */
+const TERMS_ON_LINE = 8;
 
 /** Letters one after another, with commas where one is over 9: blanks are not seen in a formula. */
 function latexLetters(letters) {
   return letters.map(String).join(letters.some((it) => Number(it) > 9) ? "," : "");
 }
 
-function latexPermutation(letters) {
-  return `\\mathfrak{S}_{${latexLetters(letters)}}`;
-}
-
-function latexLabel(term, letter) {
-  if (letter === "x") return monomial("x", term.first);
-  if (letter === "S") return latexPermutation(term.first);
-  if (letter === "SS") return `${monomial("y", term.second)} ${latexPermutation(term.first)}(x;y)`.trim();
-  const index = (label) => (label.length === 1 && label[0] > 9 ? `(${label[0]})` : label.join(",") || "\\emptyset");
-  const one = (label) => `${letter === "q" ? "\\sigma" : letter}_{${index(label)}}`;
-  const power = term.q && term.q !== "0" ? (term.q === "1" ? "q " : `q^{${term.q}} `) : "";
-  return power + (term.second ? `${one(term.first)} \\otimes ${one(term.second)}` : one(term.first));
-}
-
 function latexTerms(terms, letter) {
-  const texts = terms.map((term, i) => {
-    const { negative, text } = latexNumber(term.c), label = latexLabel(term, letter);
-    return (negative ? "-" : i ? "+" : "") + (text || (label ? "" : "1")) + label;
-  });
-  return texts.join("") || "0";
+  const texts = shownTerms(terms, letter).map((it) => latexOfFormula(it));
+  return texts.map((it, i) => (i > 0 && i % TERMS_ON_LINE === 0 ? `\n${it.trimStart()}` : it)).join("") || "0";
 }
 
 /** A tableau for the package ytableau; the cells of the inner partition are left empty. */
@@ -128,57 +103,27 @@ function latexTableau(rows, inner) {
   return `\\begin{ytableau} ${cells.join(" \\\\ ")} \\end{ytableau}`;
 }
 
-/** The answer in LaTeX. */
-function latexOf(answer) {
+/** A growth grid as an array. */
+function latexGrid(rows) {
+  const cell = (label) => (label.length ? `(${label.join(",")})` : "\\emptyset");
+  return `\\begin{array}{${"c".repeat(rows.length)}} ${rows.map((row) => row.map(cell).join(" & ")).join(" \\\\ ")} \\end{array}`;
+}
+
+/** The right side of the equation of an answer in LaTeX. */
+function latexRight(answer) {
   if (answer.kind === "terms") return latexTerms(answer.terms, answer.letter);
-  if (answer.kind === "word") return latexLetters(answer.letters);
-  if (answer.kind === "grid") {
-    const cell = (label) => (label.length ? `(${label.join(",")})` : "\\emptyset");
-    const cells = answer.rows.map((row) => row.map(cell).join(" & "));
-    return `\\begin{array}{${"c".repeat(answer.rows.length)}} ${cells.join(" \\\\ ")} \\end{array}`;
-  }
-  const name = (i) => (answer.names ? `${answer.names[i]} = ` : "");
-  const tableaux = answer.tableaux.map((rows, i) => name(i) + latexTableau(rows, answer.inner));
-  return ["% \\usepackage{ytableau}", ...tableaux].join("\n");
+  if (answer.kind === "number") return answer.value;
+  if (answer.kind === "word") return latexLetters(answer.letters) || "\\emptyset";
+  if (answer.kind === "grid") return latexGrid(answer.rows);
+  const tableaux = answer.tableaux.map((rows) => latexTableau(rows, answer.inner));
+  if (answer.names) return tableaux.map((it, i) => `${answer.names[i]} = ${it}`).join(",\n\\quad ");
+  return tableaux.length === 1 ? tableaux[0] : `\\{${tableaux.join(",\n\\quad ")}\\}`;
 }
 
-// ---- Sage
-
-const list = (values) => `[${values.join(",")}]`;
-
-/** The line that defines the names of a sum of terms in Sage. */
-function sageNames(terms, letter) {
-  if (letter === "S") return "X = SchubertPolynomialRing(ZZ)";
-  if (letter === "q") return "q = QQ['q'].gen(); s = SymmetricFunctions(q.parent()).s()";
-  if (letter !== "x") return `${letter} = SymmetricFunctions(QQ).${letter}()`;
-  const count = terms.reduce((most, term) => Math.max(most, term.first.length), 1);
-  const names = [...Array(count).keys()].map((i) => `x${i}`);
-  return `(${names.join(",")},) = PolynomialRing(ZZ, ${list(names.map((it) => `'${it}'`))}).gens()`;
-}
-
-function sageLabel(term, letter) {
-  if (letter === "x") return term.first.map((e, i) => `x${i}^${e}`).join("*") || "1";
-  if (letter === "S") return `X(${list(term.first)})`;
-  if (term.second) return `tensor([s(${list(term.first)}), s(${list(term.second)})])`;
-  return term.q ? `q^${term.q}*s(${list(term.first)})` : `${letter}(${list(term.first)})`;
-}
-
-function sageTableau(rows, inner) {
-  const isSkew = inner.some((it) => it > 0);
-  const cells = rows.map((row, i) => list([...Array(inner[i] || 0).fill("None"), ...row]));
-  return `${isSkew ? "SkewTableau" : "Tableau"}(${list(cells)})`;
-}
-
-/** The answer for Sage, after a line that defines its names; null if Sage has no such thing. */
-function sageOf(answer) {
-  if (answer.kind === "word") return list(answer.letters);
-  if (answer.kind === "grid" || answer.letter === "SS") return null;
-  if (answer.kind === "tableaux") {
-    const texts = answer.tableaux.map((rows) => sageTableau(rows, answer.inner));
-    return answer.names ? texts.map((it, i) => `${answer.names[i]} = ${it}`).join("\n") : list(texts);
-  }
-  const { terms, letter } = answer;
-  const sign = (term, i) => (term.c.startsWith("-") || i === 0 ? "" : "+");
-  const signed = (term, i) => `${sign(term, i)}${term.c}*${sageLabel(term, letter)}`;
-  return `${sageNames(terms, letter)}\n${terms.map(signed).join("") || "0"}`;
+/** The equation of an answer in LaTeX, to be put into a formula. */
+function latexOf(answer, line) {
+  const { left, where } = leftOf(line), right = latexRight(answer), condition = where ? `\\quad ${latexOfFormula(where.trim())}` : "";
+  const needs = answer.kind === "tableaux" ? "% \\usepackage{ytableau}\n" : "";
+  if (answer.names) return `${needs}${right}\n\\quad ${latexOfFormula(left.replace(/^P and Q of/, "for"))}`;
+  return `${needs}${latexOfFormula(left)} = ${right}${condition}`;
 }

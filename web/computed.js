@@ -130,6 +130,14 @@ function computedBy(line, asked) {
   return asked ? ASKED[asked.kind](asked, of) : COMPUTED[words[0]](of) + (parts.some((it) => it.sign === "-m") ? ", on one line" : "");
 }
 
+/** What is proved of a quantum or fusion product, and what is a theorem; nothing of other lines. */
+function reductionOf(line) {
+  const [name] = textsOfWords(line), computed = ["quantum", "fusion"].includes(name) ? computedBy(line) : "";
+  if (computed === "") return "";
+  const [how, where, whose] = name === "quantum" ? ["by rim hooks", /QH.*$/, "of Bertram, Ciocan-Fontanine and Fulton"] : ["into the alcove", /su\(.*$/, "of Kac and Walton"];
+  return `Proved is that this is the product in K variables, reduced ${how}. That it is the product ${name === "quantum" ? "in" : "for"} ${where.exec(computed)[0]} is a theorem ${whose}.`;
+}
+
 /** What the coefficients of the answer to a line are called, where they have a name. */
 function namedCoefficients(line) {
   const parts = line.startsWith("expand") ? partsOf(textsOfWords(line)) : null, wordOf = (role) => parts.find((it) => it.role === role).words[0];
@@ -179,12 +187,16 @@ function shownTerm(term, letter) {
   return `${power}${letter === "q" ? "σ" : letter}${index(term.first)}`;
 }
 
-/** A sum of terms in this notation. */
-function shownSum(terms, letter) {
-  const texts = terms.map((term, i) => {
+/** The terms of a sum in this notation, each with its sign. */
+function shownTerms(terms, letter) {
+  return terms.map((term, i) => {
     const isMinus = term.c.startsWith("-"), size = isMinus ? term.c.slice(1) : term.c, label = shownTerm(term, letter);
     const sign = i === 0 ? (isMinus ? "−" : "") : isMinus ? " − " : " + ";
-    return sign + (size === "1" && label ? "" : `${size} `) + label;
+    return sign + (label ? (size === "1" ? "" : `${size} `) + label : size);
   });
-  return texts.join("").trim() || "0";
+}
+
+/** A sum of terms in this notation. */
+function shownSum(terms, letter) {
+  return shownTerms(terms, letter).join("") || "0";
 }

@@ -1,4 +1,4 @@
-// Drawings of answers: diagrams of partitions, tableaux, growth grids.
+// Drawings of answers: diagrams of partitions, and tableaux.
 
 /** The side of a cell of a diagram, and the height of a cell with an entry. */
 const CELL = 16;
@@ -7,12 +7,13 @@ const ROW = 22;
 const MOST_DRAWN = 60;
 const MOST_CELLS = 6000;
 
-const SVG = "http://www.w3.org/2000/svg";
+const NAMESPACES = { svg: "http://www.w3.org/2000/svg", math: "http://www.w3.org/1998/Math/MathML" };
+/** The elements of a picture and of a formula. */
+const NAMESPACE_OF = { svg: "svg", path: "svg", text: "svg", ...Object.fromEntries("math mrow mi mn mo mtext msub msup msubsup".split(" ").map((it) => [it, "math"])) };
 
-/** An element of the page, or of a picture. */
+/** An element of the page, of a picture, or of a formula. */
 function element(name, attributes = {}, ...children) {
-  const isDrawn = ["svg", "path", "text"].includes(name);
-  const it = isDrawn ? document.createElementNS(SVG, name) : document.createElement(name);
+  const kind = NAMESPACE_OF[name], it = kind ? document.createElementNS(NAMESPACES[kind], name) : document.createElement(name);
   for (const [key, value] of Object.entries(attributes)) it.setAttribute(key, value);
   it.append(...children);
   return it;
@@ -55,18 +56,12 @@ function tableauPicture(rows, inner, title, marks) {
 }
 
 function figure(drawing, caption) {
-  return element("figure", {}, drawing, ...(caption === undefined ? [] : [element("figcaption", {}, ...formula(caption))]));
+  return element("figure", {}, drawing, ...(caption === undefined ? [] : [element("figcaption", { "data-formula": caption }, ...formula(caption))]));
 }
 
 /** Two drawings of one term. */
 function pair(first, second) {
   return element("div", { class: "pair" }, first, element("span", {}, "⊗"), second);
-}
-
-/** The table of a growth grid. */
-function gridTable(rows) {
-  const line = (row) => element("tr", {}, ...row.map((label) => element("td", {}, diagram(label))));
-  return element("table", { class: "grid", "aria-label": "growth grid" }, ...rows.map(line));
 }
 
 /** The figures of an answer, one for each term or tableau, made as they are taken. */
@@ -89,11 +84,12 @@ function* figuresOf(answer) {
 
 /** What can be drawn of an answer, with a line that says so if it is a part; null if nothing can. */
 function drawn(answer, text) {
-  if (!answer || answer.kind === "word" || ["x", "S", "SS"].includes(answer.letter)) return null;
+  if (!answer || ["word", "number"].includes(answer.kind) || ["x", "S", "SS"].includes(answer.letter)) return null;
   const box = element("div", { class: "drawn", tabindex: "0", role: "group", "aria-label": "Drawings" });
   if (answer.kind === "grid") {
-    box.append(gridTable(answer.rows));
-    return box;
+    const n = answer.rows.length - 1, letters = crossesOfGrid(answer.rows).map(([, j]) => j).join(" ");
+    box.append(figure(growthPicture(answer.rows, n * n, `growth diagram of ${letters}`)));
+    return n * n > MOST_CELLS ? null : box;
   }
   const count = answer.names ? 2 : sizeOf(answer, text);
   let some = 0, cells = 0;

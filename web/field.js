@@ -1,4 +1,4 @@
-// The field: what is typed, earlier lines, what is pasted, and lines in the page's address.
+// The field: what is typed, earlier lines, what is pasted, and what can be undone.
 
 /** The most lines that are kept over reloads, the most that one reload runs again, and for how long a command may have run for that. */
 const MOST_HISTORY = 500;
@@ -6,8 +6,6 @@ const MOST_AGAIN = 30;
 /** The most readings of a line that are shown while it is typed. */
 const MOST_PREVIEWED = 4;
 const SHORT = 2000;
-/** How much a link runs by itself: commands, the sum of their numbers, and milliseconds. */
-const LIGHT = { commands: 6, sum: 60, time: 3000 };
 
 /** A list of texts that the browser keeps, for this tab or for later visits; an empty one, where it keeps nothing. */
 function keptList(store, name) {
@@ -30,8 +28,8 @@ function keep(store, name, list) {
 /** What was typed, the latest last; where the arrow keys are in it; what was typed there and did not run, by its place. */
 const asked = keptList("localStorage", "calc: lines");
 let placeInAsked = asked.length, drafts = new Map();
-/** What this tab has run, to run it again after a reload; and what was half typed when an example took its place. */
-let session = [], erased = "";
+/** What this tab has run, to run it again after a reload. */
+let session = [];
 
 /** Keeps further lines. What another tab has kept meanwhile stays. */
 function remember(texts) {
@@ -70,12 +68,20 @@ function showEarlier() {
 }
 
 function forget() {
+  const [lines, before, address] = [[...asked], session, textOfAddress()];
   asked.length = 0;
   keep("localStorage", "calc: lines", []);
   keepSession([]);
   putInAddress("");
   remember([]);
   say("The earlier commands were forgotten.");
+  canUndo("the earlier commands", () => {
+    keep("localStorage", "calc: lines", [...lines, ...asked]);
+    asked.unshift(...lines);
+    remember([]);
+    keepSession([...before, ...session]);
+    putInAddress(address);
+  });
 }
 
 /** Notes what a job came to, for a reload, and shows it. */
@@ -143,19 +149,9 @@ function askLines(lines, most, isNew = true, isQuestion = false) {
   if (isNew) remember(lines);
   if (commands.length === 0) return undefined;
   keepSession([...session, ...commands.map((job) => job.typed).filter((it) => it.length <= LONGEST_LINE)]);
-  putInAddress(commands.map(addressOf).join("; "));
+  // (what a link or a reload runs is no step of the way back)
+  putInAddress(commands.map(addressOf).join("; "), most === undefined);
   return enqueue(commands);
-}
-
-/** A job as a link has it: its line, or what was typed, where that asks for more than the line says. */
-const addressOf = ({ typed, line, asked: more }) => (more ? typed : line);
-
-function putInAddress(lines) {
-  try {
-    if (lines.length < 8000) history.replaceState(null, "", `#${encodeURIComponent(lines)}`);
-  } catch {
-    // (a browser that lets no page change its address so often)
-  }
 }
 
 /** Opens the help of a command, or shows all commands. */
@@ -204,15 +200,30 @@ function put(text) {
 function replaceField(text) {
   const before = at("line").value, isRun = before.trim() === "" || before === text || asked.includes(before) || linesOf(before).every((it) => asked.includes(it));
   put(text);
-  if (!isRun) erased = before;
-  at("undo").hidden = !erased;
+  if (!isRun) canUndo("what was half typed", () => put(before));
 }
 
-/** Brings back what was half typed when something else came into the field. */
+/** What was taken away, the latest last: of each what it is called, and what brings it back. */
+let taken = [];
+
+/** Notes how something that was taken away comes back. (Of long answers one set is kept.) */
+function canUndo(what, back) {
+  taken = [...taken.filter((it) => what !== "the answers" || it.what !== what), { what, back }].slice(-20);
+  showUndo();
+}
+
+function showUndo() {
+  const it = at("undo"), last = taken[taken.length - 1];
+  it.hidden = !last;
+  if (last) it.title = `Brings back ${last.what}`;
+}
+
+/** Brings back what was taken away last. */
 function undo() {
-  put(erased);
-  erased = "";
-  at("undo").hidden = true;
+  const { what, back } = taken.pop();
+  back();
+  showUndo();
+  say(`Brought back: ${what}.`);
   toField();
 }
 
@@ -236,61 +247,4 @@ function paste(event) {
   preview();
   const others = left > 0 ? ` ${countOfThings(left, "line that is", "lines that are")} no command ${left === 1 ? "was" : "were"} left out.` : "";
   say(`${countOfThings(lines.length, "command was", "commands were")} pasted.${others} Press Enter to run.`);
-}
-
-// ---- addresses
-
-/** Whether the lines that a link runs are so small that they run by themselves. */
-function isLight(lines) {
-  const numbers = lines.join(" ").match(/\d+/g) || [];
-  return lines.length <= LIGHT.commands && lines.every((it) => it.length <= 200) && sumOf(numbers) <= LIGHT.sum;
-}
-
-/** The text of the page's address after its #; nothing, if that is a place of the page. */
-function textOfAddress() {
-  const given = location.hash.slice(1);
-  if (!given || at(given)) return "";
-  try {
-    return decodeURIComponent(given);
-  } catch {
-    return given;
-  }
-}
-
-/** The article that answers a line, if it is there. */
-function articleOf(line) {
-  return [...at("answers").children].find((it) => it.dataset.of === line);
-}
-
-/** Shows the answers to the commands of the page's address: runs those that are not there, and waits for Enter if they can be heavy or have several readings. */
-function follow() {
-  const read = linesOf(textOfAddress()).map((typed) => ({ typed, ...readTyped(typed) }));
-  if (read.length === 0) return;
-  const inQueue = [running, ...ahead, ...waiting].map((job) => job && job.line);
-  const left = read.filter(({ line }) => !articleOf(line) && !inQueue.includes(line));
-  if (left.length === 0) return showAnswer(articleOf(read[0].line));
-  put(left.map((it) => withoutComment(inSight(it.typed))).join("; "));
-  const isClear = left.every((it) => !it.unread || (it.unread.offers.length === 0 && !isMisseen(it.typed)));
-  if (isClear && isLight(left.map((it) => it.line))) {
-    askLines(left.map((it) => it.typed), LIGHT.time);
-    return putInAddress(read.map(addressOf).join("; "));
-  }
-  const [what, them] = left.length === 1 ? ["a command", "it"] : [`${left.length} commands`, "them"];
-  say(`This link has ${what} that can ${isClear ? "take long" : "be read in several ways"}. Press Enter to run ${them}.`);
-  return toField();
-}
-
-/** Brings an answer into sight, if it is there. */
-function showAnswer(article) {
-  if (!article) return;
-  article.scrollIntoView();
-  article.focus({ preventScroll: true });
-}
-
-/** What a page that is opened runs: after a reload what it ran before; else the commands of its address. */
-function begin() {
-  const [how] = performance.getEntriesByType("navigation"), before = keptList("sessionStorage", "calc: session");
-  if (how && ["reload", "back_forward"].includes(how.type) && before.length > 0) return askLines(before, SHORT * 2, false);
-  keep("sessionStorage", "calc: session", []);
-  return follow();
 }

@@ -168,11 +168,12 @@ function enqueue(jobs) {
 
 /** Takes what waits away. */
 function clearQueue() {
-  round.asked -= waiting.length;
-  waiting.length = 0;
+  const jobs = waiting.splice(0);
+  round.asked -= jobs.length;
   showUnshown();
   update();
   say("The queue was cleared.");
+  canUndo("the queue", () => enqueue(jobs));
 }
 
 /** Shows what runs and what waits. If the button with the focus is gone then, the field has it. */
@@ -198,9 +199,15 @@ function showWaiting() {
 
 function waitingItem(job) {
   const remove = button("Remove", () => {
-    waiting.splice(waiting.indexOf(job), 1);
+    const place = waiting.indexOf(job);
+    waiting.splice(place, 1);
     round.asked -= 1;
     update();
+    canUndo(named(inSight(job.line)), () => {
+      waiting.splice(place, 0, job);
+      round.asked += 1;
+      next();
+    });
   });
   remove.setAttribute("aria-label", `Remove ${named(inSight(job.line))}`);
   return element("li", {}, element("code", {}, named(inSight(job.line))), " ", remove);

@@ -29,6 +29,17 @@ at("line").onkeydown = (event) => {
   return step(by);
 };
 
+// (mathematics is copied as it looks, not as its letters one after another)
+document.addEventListener("copy", (event) => {
+  const selection = getSelection(), field = document.activeElement;
+  if (selection.isCollapsed || field.selectionStart !== undefined) return;
+  const part = () => selection.getRangeAt(0).cloneContents(), text = markedText(part());
+  if (text === "") return;
+  event.clipboardData.setData("text/plain", text);
+  event.clipboardData.setData("text/html", element("div", {}, part()).innerHTML);
+  event.preventDefault();
+});
+
 /** Shows the top of the page, where the answers come. */
 function toTop() {
   const isStill = matchMedia("(prefers-reduced-motion: reduce)").matches;

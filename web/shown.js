@@ -162,7 +162,7 @@ function askedNote(job, found) {
   const left = computedBy(job.line, job.asked), isNone = found.terms && found.terms.length === 0;
   const where = job.asked.kind === "count" ? "There are so many lines" : isNone ? "No line says so: what is not there is 0" : found.terms.length === 1 ? "The marked line says so" : "The marked lines say so";
   return [
-    element("p", { class: "asked math" }, ...formula(left), " = ", element("strong", {}, ...formula(found.value))),
+    element("p", { class: "asked math" }, ...mathNodes(left), " = ", element("strong", {}, ...mathNodes(found.value))),
     note("note", `${where}. The whole answer is that of ${job.line}:`),
   ];
 }
@@ -171,16 +171,28 @@ function askedNote(job, found) {
 function notesOf(job, isDone, told, error) {
   const { line, unread } = job, notes = told ? [note(unread && unread.said && unread.offers.length > 0 ? "unclear" : "said", told.sentence + (error ? ` (${error})` : ""))] : [];
   if (isDone && line === "batch") notes.push(note("note", "Here batch has no input. Type commands with ; between them."));
-  const outside = isDone ? [outsideBox(line), namedCoefficients(line)].filter(Boolean).map((it) => note("note", ...formula(it))) : [];
+  const outside = isDone ? [outsideBox(line), reductionOf(line), namedCoefficients(line).replace(/^: /, "The coefficients are ")].filter(Boolean).map((it) => note("note", ...formula(it))) : [];
   return isDone ? [...notes, ...outside, ...(job.isQuestion ? meaningsOf(line) : []).map((it) => note("meaning", ...it))] : notes;
 }
 
-/** What was computed, in mathematics, from the words that ran; and beside the text of a short list of terms the sum that it is. */
-function mathematicsOf(line, text, answer) {
+/** What was computed, in mathematics, from the words that ran. */
+function computedNote(line) {
   const computed = computedBy(line);
-  const isSum = answer && answer.kind === "terms" && answer.terms.length <= MOST_DRAWN && sizeOf(answer, text) === answer.terms.length;
-  const sum = isSum ? [element("p", { class: "sum math" }, "= ", ...formula(shownSum(answer.terms, answer.letter)))] : [];
-  return [computed ? [element("p", { class: "computed math" }, ...formula(computed))] : [], line.startsWith("coef") ? [] : sum];
+  return computed ? [element("p", { class: "computed math" }, ...mathNodes(computed))] : [];
+}
+
+/** The right side of an equation that is shown; nothing, if it is long or no formula. */
+function rightOf(answer, text) {
+  if (answer?.kind === "number") return answer.value;
+  const isShort = answer?.kind === "terms" && answer.terms.length <= MOST_DRAWN && sizeOf(answer, text) === answer.terms.length;
+  return isShort ? shownSum(answer.terms, answer.letter) : "";
+}
+
+/** The equation of an answer: its left side, what was printed as a sum, and what holds for it. */
+function equation(line, right, nodes = mathNodes) {
+  const { left, where } = leftOf(line);
+  const sides = [element("span", { class: "left" }, ...nodes(left)), " ", element("span", { class: "sum" }, ...nodes(`= ${right}`))];
+  return element("p", { class: "equation math" }, ...sides, ...(where ? [element("span", { class: "where" }, ...nodes(where))] : []));
 }
 
 /** The latest answers that are not shown, since a hundred others will come: each its job and answer. */
@@ -215,16 +227,19 @@ function shownArticle(job, { status, text = "", time, stopped, why, error }) {
   const { line, unread } = job, isDone = status === 0;
   const told = stopped || isDone ? null : toldOf(job, status, text);
   const answer = isDone ? answerOf(line, frontOf(line, text)) : null, count = countOf(answer, text), found = isDone ? askedOf(job, text) : null;
-  const [computed, sum] = isDone || stopped || text === "! Large\n" ? mathematicsOf(line, text, answer) : [[], []];
+  const computed = isDone || stopped || text === "! Large\n" ? computedNote(line) : [], right = rightOf(answer, text), sum = right ? [equation(line, right)] : [];
   const id = `answer-${(numberOfAnswer += 1)}`, title = element("h3", { id }, element("code", { dir: "ltr" }, ...marked(line, told)));
   const header = element("header", {}, title, element("span", {}, aboutOf(status, count, time, stopped, unread)));
   const article = element("article", { "aria-labelledby": id, tabindex: "-1" }, header, ...changesOf(job), ...(found ? askedNote(job, found) : []), ...(isDone ? insteadOf(job) : []), ...computed);
   if (!isDone) article.className = "refused";
   article.dataset.of = line;
+  article.dataset.title = named(inSight(addressOf(job)));
+  entitle(article.dataset.title);
+  if (isDone) answersOfArticles.set(article, { line, text });
   if (text) article.append(...textOf(line, text, found ? found.isAsked : undefined), ...sum);
   if (stopped && why) article.append(note("note", `Press Run for the answer: ${why}.`));
-  article.append(...notesOf(job, isDone, told, error), ...(told ? offersOf(job) : []), toolsOf(job, text, answer));
-  article.append(...picturesOf(line, answer, text));
+  article.append(...notesOf(job, isDone, told, error), ...(told ? offersOf(job) : []), toolsOf(job, text, answer, found));
+  article.append(...picturesOf(line, answer, text), ...(isDone ? theoremOf(line) : []));
   place(article);
   performance.mark("answer");
   const outcome = stopped ? "stopped" : told ? (unread && unread.said ? "not run" : "refused") : count || "done";
@@ -233,7 +248,10 @@ function shownArticle(job, { status, text = "", time, stopped, why, error }) {
 
 /** The drawings of an answer and its pictures step by step; a button for them, where many commands wait. */
 function picturesOf(line, answer, text) {
-  const made = () => [drawn(answer, text), ...steps(line, answer)].filter(Boolean);
+  const made = () => {
+    const box = drawn(answer, text);
+    return [...(box ? [box, toolsOfDrawings(box, line, answer)] : []), ...steps(line, answer)];
+  };
   if (waiting.length < 20) return made();
   return answer && drawn(answer, text) ? [button("Draw", (event) => event.target.replaceWith(...made()))] : [];
 }
@@ -246,10 +264,15 @@ function keepText(line, text) {
   while (sizeKept > MOST_KEPT && kept.length > 1) sizeKept -= kept.shift().text.length;
 }
 
-/** Puts an article above the others, and takes the oldest ones away. */
+/** Puts an article above the others. */
 function place(article) {
   at("given").hidden = false;
   at("answers").prepend(article);
+  countShown();
+}
+
+/** Takes the oldest answers away, and says how many of them are shown. */
+function countShown() {
   const articles = at("answers").children;
   while (articles.length > Math.min(MOST_ANSWERS, kept.length)) articles[articles.length - 1].remove();
   const number = (it) => it.toLocaleString("en");
@@ -260,12 +283,22 @@ function place(article) {
 
 /** Takes all answers away. */
 function clearAnswers() {
+  const articles = [...at("answers").children], texts = kept.splice(0), [size, given] = [sizeKept, answersGiven];
   at("answers").replaceChildren();
-  kept.length = sizeKept = answersGiven = 0;
+  sizeKept = answersGiven = 0;
   unshown = [];
   at("given").hidden = true;
   at("older").hidden = true;
+  entitle();
   say("The answers were cleared.");
+  canUndo("the answers", () => {
+    kept.unshift(...texts);
+    sizeKept += size;
+    answersGiven += given;
+    at("answers").append(...articles);
+    at("given").hidden = false;
+    countShown();
+  });
   toField();
 }
 
@@ -274,15 +307,28 @@ function transcript() {
   return kept.map(({ line, text }) => `$ calc ${line}\n${text}`);
 }
 
-/** The buttons of an answer. What they copy is made when they are pressed. */
-function toolsOf({ line, typed, asked }, text, answer) {
-  const tools = element("div", { class: "tools" });
-  const add = (name, made, what) => tools.append(button(name, () => copy(made(), what)));
-  const whole = () => answerOf(line, text);
-  if (text) add("Copy text", () => text, "Text");
-  if (answer) add("Copy LaTeX", () => latexOf(whole()), "LaTeX");
-  if (answer && sageOf(answer) !== null) add("Copy for Sage", () => sageOf(whole()), "Text for Sage");
-  add("Copy link", () => `${location.href.split("#")[0]}#${encodeURIComponent(asked ? typed : line)}`, "Link");
+/** A button beside the word "Copy", which is a part of its name. */
+function copyButton(name, action) {
+  const it = button("", action);
+  it.append(element("span", { class: "unseen" }, "Copy "), name);
+  return it;
+}
+
+/** A row of buttons that copy: of each its name, what makes the text when it is pressed, and what that is called. */
+function copyTools(copies) {
+  const one = ([name, made, what]) => copyButton(name, () => copy(made(), what));
+  return element("div", { class: "tools" }, element("span", { "aria-hidden": "true" }, "Copy"), ...copies.map(one));
+}
+
+/** The buttons of an answer. */
+function toolsOf(job, text, answer, found) {
+  const { line } = job, whole = () => answerOf(line, text), copies = text ? [["text", () => text, "Text"]] : [];
+  if (found) copies.push(["the value as LaTeX", () => latexOfFormula(`${computedBy(line, job.asked)} = ${found.value}`), "LaTeX"]);
+  if (answer) copies.push(["LaTeX", () => latexOf(whole(), line), "LaTeX"]);
+  if (answer && sageOf(answer, line) !== null) copies.push(["for Sage", () => sageOf(whole(), line), "Text for Sage"]);
+  if (answer) copies.push(["for Python", () => pythonOf(whole(), line), "Text for Python"], ["CSV", () => asCSV(sheetOf(whole())), "CSV"], ["TSV", () => asTSV(sheetOf(whole())), "TSV"]);
+  const tools = copyTools(copies);
+  tools.append(linkButton(addressOf(job)));
   return tools;
 }
 

@@ -12,17 +12,18 @@ function framesOf(line, answer) {
   if (line.startsWith("rsk")) return [insertion(list("letters").map(plainNumber), answer)];
   if (line.startsWith("rect")) return [rectification(list("partition"), parts.filter((it) => it.role === "partition")[1].words, list("filling"), answer)];
   if (line.startsWith("tab")) return [readings(answer)];
+  if (line.startsWith("growth")) return [growthSteps(answer)];
   const letters = moved(list("permutation").map(Number));
   return line.startsWith("schubert") ? [pipeDreams(letters, answer), permutationDiagram(letters, answer)] : [];
 }
 
 /** The pictures of an answer, each with its steps. */
 function steps(line, answer) {
-  return framesOf(line, answer).filter((it) => it && it.frames.length > 1 && it.frames.length <= MOST_STEPS).map(stepper);
+  return framesOf(line, answer).filter((it) => it && it.frames.length > 1 && it.frames.length <= MOST_STEPS).map((it) => stepper(it, line));
 }
 
 /** A picture, one step at a time, with buttons for the one before and the next. */
-function stepper({ title, frames }) {
+function stepper({ title, frames }, line) {
   let number = 0;
   const drawing = element("div", { class: "step-drawing", tabindex: "0", role: "group", "aria-label": "Drawing of this step" }), caption = element("p", { class: "step-caption" });
   const place = element("input", { type: "range", min: "1", max: String(frames.length), value: "1", "aria-label": title });
@@ -38,7 +39,7 @@ function stepper({ title, frames }) {
   const buttons = [button("Before", () => show(number - 1)), place, button("Next", () => show(number + 1))];
   show(0);
   const tools = element("div", { class: "tools" }, ...buttons);
-  return element("div", { class: "steps", role: "group", "aria-label": title }, note("step-title", title), tools, drawing, caption);
+  return element("div", { class: "steps", role: "group", "aria-label": title }, note("step-title", title), tools, drawing, caption, toolsOfDrawings(drawing, line));
 }
 
 const textOfRows = (rows) => rows.map((row) => row.join(" ")).join(" / ");

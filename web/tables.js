@@ -25,9 +25,6 @@ function permutationsOf(n) {
 const key = (label) => `(${label.join(",")})`;
 const atom = (basis, label) => `${basis}[${label.join(",")}]`;
 
-/** A label as text of a table in CSV. (A spreadsheet reads (1) as -1.) */
-const plainKey = (label) => `[${label.join(",")}]`;
-
 /** The coefficient of a label in terms. */
 function coefficientOf(terms, label) {
   const found = terms.find((it) => key(it.first) === key(label));
@@ -131,9 +128,7 @@ function plainEntry(entry) {
 
 /** A table in CSV: labels of columns first, each row with its label. */
 function csvOf({ labels, entries }) {
-  const cell = (text) => (/[",\n]/.test(text) ? `"${text.replace(/"/g, '""')}"` : text);
-  const rows = [["", ...labels.map(plainKey)], ...entries.map((row, i) => [plainKey(labels[i]), ...row.map(plainEntry)])];
-  return `${rows.map((row) => row.map(cell).join(",")).join("\r\n")}\r\n`;
+  return asCSV([["", ...labels.map(plainKey)], ...entries.map((row, i) => [plainKey(labels[i]), ...row.map(plainEntry)])]);
 }
 
 /** A table in JSON: its title, labels, lines, and entries: numbers, or lists of terms. */
@@ -156,12 +151,16 @@ function tableShown({ labels, entries }, kind, said) {
 }
 
 /** Shows a table, how to have it, and the lines that made it. */
-function showTable(table, kind, said) {
+function showTable(table, kind, said, address) {
   const name = table.title.replace(/\W+/g, "_"), tools = element("div", { class: "tools" });
   for (const [what, end, text] of [["CSV", "csv", csvOf], ["JSON", "json", jsonOf]]) {
     tools.append(button(`Copy ${what}`, () => copy(text(table), what)));
     tools.append(button(`Download ${what}`, () => download(`${name}.${end}`, [text(table)])));
   }
+  tools.append(linkButton(address));
+  at("made").dataset.of = address;
+  at("made").dataset.title = table.title;
+  entitle(table.title);
   const summary = element("summary", {}, countOfThings(table.lines.length, "command", "commands"));
   const lines = element("pre", { tabindex: "0", "aria-label": "The commands of the table" }, table.lines.join("\n"));
   const wide = element("div", { class: "wide", tabindex: "0", role: "group", "aria-label": table.title }, tableShown(table, kind, said));
@@ -169,22 +168,40 @@ function showTable(table, kind, said) {
 }
 
 /** Makes a table: its lines are one batch. */
-function makeTable(name, sizes) {
+function makeTable(name, sizes, most) {
   const kind = TABLES[name], [k, n] = sizes, isEmpty = sizes.length === 2 && n <= k;
   const labels = isEmpty ? [] : kind.labels(...sizes), count = labels.length ** 2;
   const tell = (text) => at("said-of-table").replaceChildren(text);
   if (isEmpty) return tell("n has to be greater than k.");
   if (count > MOST_ENTRIES) return tell(`This table would have ${count.toLocaleString("en")} entries. At most ${MOST_ENTRIES.toLocaleString("en")} are made.`);
   const title = `${kind.title}, ${kind.sizes.map(([letter], i) => `${letter} = ${sizes[i]}`).join(", ")}`, lines = linesOfTable(kind, labels, sizes);
+  const address = ["table", name, ...sizes].join(" ");
+  putInAddress(address, most === undefined);
   const done = (_, { status, text, stopped }) => {
     const answers = status === 0 ? blocksOf(text).map(termsOf) : [];
     const isWhole = answers.length === lines.length && answers.every(Boolean);
-    if (isWhole) showTable({ title, labels, lines, entries: entriesOf(kind, labels, answers, sizes) }, kind, kind.said(...sizes));
+    if (isWhole) showTable({ title, labels, lines, entries: entriesOf(kind, labels, answers, sizes) }, kind, kind.said(...sizes), address);
     tell(isWhole ? "" : stopped ? "The table was stopped." : "Some line of the table has no answer, so it is not made.");
     return [isWhole ? `${title}: made.` : `${title}: not made.`];
   };
-  return enqueue([{ line: "batch", input: `${lines.join("\n")}\n`, done }]);
+  return enqueue([{ line: "batch", input: `${lines.join("\n")}\n`, most, done }]);
 }
+
+/** What is done for an address that has a table, as `table characters 4`: it is shown, or made. */
+function tableOfAddress(text) {
+  const [word, name, ...given] = text.split(" "), sizes = given.map(Number), bounds = Object.hasOwn(TABLES, name) ? TABLES[name].sizes : [];
+  const isIn = word === "table" && bounds.length > 0 && bounds.length === given.length && bounds.every(([, least, most], i) => /^\d$/.test(given[i]) && sizes[i] >= least && sizes[i] <= most);
+  if (!isIn) return null;
+  return () => {
+    at("tables").scrollIntoView();
+    if (at("made").dataset.of === text) return entitle(at("made").dataset.title);
+    at("kind").value = name;
+    at("kind").onchange();
+    [...at("sizes").querySelectorAll("input")].forEach((it, i) => (it.value = given[i]));
+    return makeTable(name, sizes, LIGHT.time);
+  };
+}
+OTHER_ADDRESSES.push(tableOfAddress);
 
 /** Sets up the form for tables. */
 function addTables() {
