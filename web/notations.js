@@ -130,7 +130,7 @@ Index "an index" = ~_ ~{ Sub } -> 3  # s_{2,1}
   | ~_ ~NUM -> digits  # s_21
   | ~_ ~Round -> 2
   | ~_ ~Square -> 2
-  | ~_ ~Empty -> list
+  | ~_ ~Empty -> 2
   | ~_ ~Tight -> ? 2  # (a comma with two readings)
   | ~Square -> 1  # s[2,1]
   | ~[ ~] -> list
