@@ -14,6 +14,7 @@ from ._arguments import Exponents as Exponents, Partition as Partition, Permutat
 from ._calculator import Calculator
 from ._commands import LiteralRefusal, RangeRefusal, Refusal, ShapeRefusal, SyntaxRefusal, TooLarge
 from ._elements import Expansion, Parent as Parent
+from ._family import Family as Family, Row as Row
 from ._kinds import Number as Number
 from ._lines import Block as Block, Task as Task
 from ._tableaux import Grid as Grid, Pair as Pair, Picture as Picture, Tableau as Tableau, diagram as diagram, rothe_diagram as rothe_diagram

@@ -9,6 +9,7 @@ from . import _arguments, _search
 from ._arguments import Exponents, Numbers, Partition, Permutation, Rows, Shape, numbers, partition, text_of, whole, without_zeros
 from ._commands import Refusal, words_for
 from ._elements import BASES, Expansion, Home, Parent
+from ._family import Family, Row, rows_of
 from ._kinds import Number, atom
 from ._lines import Block, Desk, Lanes, Result, Source, Task, answer_of, blocks, own, with_bar
 from ._sage import basis_of
@@ -334,6 +335,30 @@ class Calculator:
         if progress is True:
             outcomes = with_bar(outcomes, len(lines) if isinstance(lines, (list, tuple)) else None)
         return own(blocks(outcomes, None if isinstance(progress, bool) else progress), self._way.check)
+
+    def family(
+        self,
+        template: str,
+        *,
+        progress: Union[bool, Callable[[int], None]] = False,
+        workers: Optional[int] = None,
+        timeout: Seconds = None,
+        **names: Iterable[Any],
+    ) -> Family:
+        """The table of a line whose words have names, with a row for each choice of their values, which are numbers or lists; the last name
+        changes first. A name is a word of the line, in a number such as `3n`, `n+1`, `(n-1)` or `2*n*k`, or in an atom such as `s[n,1]`. A row whose
+        line is refused has the refusal. `progress`, `workers` and `timeout` are those of `batch`.
+        >>> table = Calculator().family("coef 3n 2n n - 2n n - 2n n", n=range(1, 11))
+        >>> table.answers
+        [2, 3, 4, 5, 6, 7, 8, 9, 10, 11]
+        >>> table[1].line
+        'coef 6 4 2 - 4 2 - 4 2'
+        """
+        rows, lines = rows_of(template, names)
+        blocks_ = list(self.batch(lines, progress=progress, workers=workers, timeout=timeout))
+        if [it.line for it in blocks_] != lines:
+            raise ValueError(f"template: {template!r} is not a line")
+        return Family(names, map(Row, rows, blocks_))
 
     def block(self, line: str, *, timeout: Seconds = None) -> Block:
         """The outcome of one line, as `batch` has it: for an executor, as in `executor.map(calc.block, lines)`."""
