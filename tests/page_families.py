@@ -156,8 +156,8 @@ def family_of_numbers(*where):
     wanted = [[str(n), line, printed(line).strip()] for n, line in enumerate(lines, 1)]
     return wrong(
         (before, f"10 rows: {lines[0]}; {lines[1]}; {lines[2]}; .. ; {lines[-1]}"),
-        (cells, wanted),
-        ([it[2] for it in cells], known),
+        (cells, [[n, answer, line] for n, line, answer in wanted]),
+        ([it[1] for it in cells], known),
         (sums, ["Sum: 65"]),
         (numbers, [", ".join(known)]),
         (row, ", ".join(known)),
@@ -190,13 +190,13 @@ def family_of_sums(*where):
 
 def family_of_marked_lines(*where):
     """The number that is asked for of an answer is that of the row: Kostka numbers, that are sorted, filtered and added."""
-    numbers = "[...document.querySelectorAll('article tbody td:last-child')].map((it) => it.textContent)"
+    numbers = "[...document.querySelectorAll('article tbody td:nth-child(2)')].map((it) => it.textContent)"
     with Visit(*where) as visit:
         visit.run("K_{λ,(2,2)} for λ of 4")
         first = visit.ask(f"return [{numbers}, document.querySelector('.sums').textContent]")
-        visit.ask("document.querySelector('article thead th:last-child button').click()")
-        up = visit.ask(f"return [{numbers}, document.querySelector('article thead th:last-child').getAttribute('aria-sort')]")
-        visit.ask("document.querySelector('article thead th:last-child button').click()")
+        visit.ask("document.querySelector('article thead th:nth-child(2) button').click()")
+        up = visit.ask(f"return [{numbers}, document.querySelector('article thead th:nth-child(2)').getAttribute('aria-sort')]")
+        visit.ask("document.querySelector('article thead th:nth-child(2) button').click()")
         down = visit.ask(f"return {numbers}")
         visit.ask("document.querySelector('article thead th:first-child button').click()")
         labels = visit.ask("return [...document.querySelectorAll('article tbody td:first-child')].map((it) => it.textContent)")
@@ -217,7 +217,7 @@ def family_with_refusals(*where):
     lines = [f"coef 4 {n} - 2 - {n} 2" for n in range(1, 6)]
     with Visit(*where) as visit:
         visit.run("coef 4 n - 2 - n 2 for n = 1..5")
-        cells, notes, numbers = visit.ask(f"{TABLE} return [cells.map((row) => row[2]), texts('.note'), texts('.numbers')]")
+        cells, notes, numbers = visit.ask(f"{TABLE} return [cells.map((row) => row[1]), texts('.note'), texts('.numbers')]")
     texts = [printed(it).strip() for it in lines]
     refused = [it.startswith("! ") for it in texts]
     starts = [got.startswith(f"{text} ") and len(got) > len(text) + 10 if isOut else got == text for got, text, isOut in zip(cells, texts, refused)]

@@ -126,7 +126,7 @@ function familyTable(family, rows, address) {
   const nonzero = element("input", { type: "checkbox" }), sums = element("p", { class: "sums" }), hasZero = rows.some(isZeroRow);
   let order = {}, shownRows = rows, count = 0;
   const more = (body, number) => {
-    const row = (it) => element("tr", {}, ...family.names.map((name) => element("td", {}, Array.isArray(it.values.get(name)) ? `(${it.values.get(name).join(",")})` : String(it.values.get(name)))), element("td", { class: "command" }, element("code", {}, named(it.line ?? it.typed))), answerCell(it));
+    const row = (it) => element("tr", {}, ...family.names.map((name) => element("td", {}, Array.isArray(it.values.get(name)) ? `(${it.values.get(name).join(",")})` : String(it.values.get(name)))), answerCell(it), element("td", { class: "command" }, element("code", {}, named(it.line ?? it.typed))));
     body.append(...shownRows.slice(count, count + number).map(row));
     count = Math.min(count + number, shownRows.length);
     under.hidden = count === shownRows.length;
@@ -137,7 +137,7 @@ function familyTable(family, rows, address) {
     const left = nonzero.checked ? rows.filter((it) => !isZeroRow(it)) : rows, head = (name, text = name) => sortingHead(name, text, order, show);
     shownRows = order.column ? sortedRows(left, order) : left;
     count = 0;
-    const top = element("tr", {}, ...family.names.map((it) => head(it)), element("th", { scope: "col" }, "command"), head("answer", family.isCounted ? "answer, by terms" : "answer"));
+    const top = element("tr", {}, ...family.names.map((it) => head(it)), head("answer", family.isCounted ? "answer, by terms" : "answer"), element("th", { scope: "col", class: "command" }, "command"));
     const body = element("tbody", {}), isAgain = place.contains(document.activeElement);
     place.replaceChildren(element("table", { class: "made-rows" }, element("thead", {}, top), body));
     if (isAgain && order.column) place.querySelector("[aria-sort] button").focus();
