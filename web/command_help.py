@@ -41,14 +41,14 @@ class Command:
     def row(self):
         """The row of the help, as HTML."""
         title = f"<h3><code>{self.name}</code> {html.escape(self.what)}</h3>"
-        formula = f'<p class="formula">{formulas(self.formula)}</p>'
-        examples = f'<p class="examples">{"".join(map(button, self.examples))}</p>' if self.examples else ""
-        summary = f'<summary>Words, answer, limits<span class="unseen"> of {self.name}</span></summary>'
+        formula = f'<p class=formula>{formulas(self.formula)}</p>'
+        examples = f'<p class=examples>{"".join(map(button, self.examples))}</p>' if self.examples else ""
+        summary = f'<summary>Words, answer, limits<span class=unseen> of {self.name}</span></summary>'
         details = f"<details>{summary}{self.help()}</details>"
-        return f'<li id="help-{self.name}">{title}{formula}{examples}<div class="entry" data-command="{self.name}"></div>{details}</li>'
+        return f'<li id="help-{self.name}">{title}{formula}{examples}<div class=entry data-command={self.name}></div>{details}</li>'
 
     def help(self):
-        parts = [f'<p class="form"><code>{manual.form(self.name)}</code></p>', f"<p>{manual.description(self.name)}</p>"]
+        parts = [f'<p class=form><code>{manual.form(self.name)}</code></p>', f"<p>{manual.description(self.name)}</p>"]
         if self.label:
             if not manual.has_label(self.label):
                 manual.missing(f"the label {self.label!r}")
@@ -56,9 +56,9 @@ class Command:
         if self.order:
             parts.append(f"<p>{' '.join(manual.clause(begin) for begin in self.order)}</p>")
         if self.limits:
-            row = '<tr><th scope="row">{}</th><td>{}</td></tr>'.format
+            row = '<tr><th scope=row>{}</th><td>{}</td></tr>'.format
             limits = "".join(row(html.escape(name), html.escape(manual.limit(name))) for name in self.limits)
-            parts.append(f'<table class="limits">{limits}</table>')
+            parts.append(f'<table class=limits>{limits}</table>')
         return "".join(parts)
 
 
@@ -210,7 +210,7 @@ def formulas(text):
 
 def button(line):
     """A button that runs the line."""
-    return f'<button type="button" data-line="{html.escape(line)}">{html.escape(line)}</button>'
+    return f"<button data-line>{html.escape(line)}</button>"
 
 
 def rows():

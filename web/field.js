@@ -142,7 +142,7 @@ function linesOf(text) {
 
 /** Runs lines as they were typed, each for so many milliseconds at most; they are kept, if they are new. */
 function askLines(lines, most, isNew = true, isQuestion = false) {
-  const jobs = lines.map((typed) => ({ typed, most, done, isQuestion, ...readTyped(typed) })).filter((job) => job.line);
+  const jobs = lines.map((typed) => jobOfFamily({ typed, most, done, isQuestion, ...readTyped(typed) })).filter((job) => job.line);
   const helps = jobs.filter((job) => job.help !== undefined), commands = jobs.filter((job) => job.help === undefined);
   if (helps.length > 0) openHelp(helps[helps.length - 1].help);
   else if (commands.length === 0) return say("Nothing to run: type a command, such as mult 2 1 - 2 1.");
@@ -169,7 +169,8 @@ function toField() {
 }
 
 /** What a line would compute, in mathematics; of several readings all. */
-function previewOf({ line, asked: more, unread: not }) {
+function previewOf({ line, asked: more, unread: not, family }) {
+  if (family) return rowsInShort(family);
   if (!not) return formula(computedBy(line || "", more));
   const { offers } = not, shown_ = offers.slice(0, MOST_PREVIEWED).map((it) => formula(computedBy(it.line, it.asked)));
   if (offers.length === 0) return [];

@@ -86,11 +86,12 @@ function received(data) {
     return next();
   }
   const job = running;
+  if (job.rows && takePiece(job, data)) return data.grown > LARGE_MEMORY ? (clearTimeout(job.timer), restart()) : worker.postMessage(messageOf(job));
   running = ahead.shift() || null;
   if (running) running.began = performance.now();
   clearTimeout(job.timer);
   if (data.grown > LARGE_MEMORY) restart();
-  finish(job, data);
+  finish(job, job.rows ? { ...data, status: 0 } : data);
   return next();
 }
 
@@ -114,7 +115,8 @@ function mayBegin() {
   const [job] = waiting;
   if (!job) return false;
   if (job.unread && job.unread.said) return !running;
-  return isReady && (!running || (waiting.length > LONG_QUEUE && ahead.length < AHEAD));
+  // (what has many rows is the only one that the worker has)
+  return isReady && (!running || (!running.rows && !job.rows && waiting.length > LONG_QUEUE && ahead.length < AHEAD));
 }
 
 /** Gives the worker what waits: one command, or of a long queue some at once, so that it need not wait for this page. */
@@ -128,7 +130,7 @@ function next() {
     }
     if (running) ahead.push(job);
     else running = job;
-    worker.postMessage({ line: job.line, input: job.input || "" });
+    worker.postMessage(messageOf(job));
     if (job.most) job.timer = setTimeout(stop, job.most, `it was stopped after ${job.most / 1000} s, since nobody pressed Run`);
     if (round.asked === 1) say(`${named(inSight(job.line))} is running.`);
   }
@@ -217,5 +219,10 @@ function waitingItem(job) {
 function tick() {
   const passed = running ? performance.now() - running.began : 0;
   at("progress").hidden = passed < 250;
-  if (running) at("elapsed").textContent = `${(passed / 1000).toFixed(1)} s`;
+  if (!running) return;
+  const { rows, answered, began, since = began } = running, of = rows ? `, ${answered.toLocaleString("en")} of ${countOfThings(rows.length, "row", "rows")}` : "";
+  at("elapsed").textContent = `${((performance.now() - since) / 1000).toFixed(1)} s${of}`;
+  at("share").hidden = !rows;
+  document.querySelector("#progress .bar").hidden = Boolean(rows);
+  if (rows) Object.assign(at("share"), { max: rows.length, value: answered });
 }

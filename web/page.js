@@ -56,6 +56,8 @@ document.addEventListener("click", ({ target }) => {
   toTop();
 });
 
+// (a button of the page runs the line that it shows)
+for (const it of document.querySelectorAll('[data-line=""]')) it.dataset.line = it.textContent;
 window.onhashchange = follow;
 at("run").disabled = false;
 boot();

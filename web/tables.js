@@ -1,26 +1,4 @@
-// Tables, made of the answers to many commands: characters, Kostka numbers, products. Each is a batch of lines that the module runs.
-
-/** The partitions of n, in decreasing lexicographic order. */
-function partitionsOf(n, most = n) {
-  if (n === 0) return [[]];
-  const found = [];
-  for (let first = Math.min(n, most); first > 0; first -= 1) for (const rest of partitionsOf(n - first, first)) found.push([first, ...rest]);
-  return found;
-}
-
-/** The partitions with at most so many rows and columns, by size. */
-function partitionsInside(rows, columns) {
-  const all = [];
-  for (let n = 0; n <= rows * columns; n += 1) all.push(...partitionsOf(n).filter((it) => it.length <= rows && (it[0] || 0) <= columns));
-  return all;
-}
-
-/** The permutations of n letters, by inversions. */
-function permutationsOf(n) {
-  const grow = (front, rest) => (rest.length === 0 ? [front] : rest.flatMap((it) => grow([...front, it], rest.filter((other) => other !== it))));
-  const inversions = (w) => w.reduce((sum, a, i) => sum + w.slice(i).filter((b) => b < a).length, 0);
-  return grow([], Array.from({ length: n }, (_, i) => i + 1)).sort((a, b) => inversions(a) - inversions(b));
-}
+// Tables, made of the answers to many commands: characters, Kostka numbers, products. Each is a job of rows.
 
 const key = (label) => `(${label.join(",")})`;
 const atom = (basis, label) => `${basis}[${label.join(",")}]`;
@@ -99,13 +77,6 @@ const TABLES = {
 /** The most entries of a table. */
 const MOST_ENTRIES = 1300;
 
-/** The texts of the answers in a batch. */
-function blocksOf(text) {
-  const blocks = [[]];
-  for (const line of text.split("\n").slice(0, -1)) line === "--" ? blocks.push([]) : blocks[blocks.length - 1].push(`${line}\n`);
-  return blocks.map((lines) => lines.join(""));
-}
-
 /** The entries of a table by the terms of its lines' answers, row by row: numbers as texts, or lists of terms. */
 function entriesOf(kind, labels, answers, sizes) {
   const sum = (i, j) => answers[i * labels.length + j].filter((it) => kind.counts(it, ...sizes));
@@ -177,14 +148,13 @@ function makeTable(name, sizes, most) {
   const title = `${kind.title}, ${kind.sizes.map(([letter], i) => `${letter} = ${sizes[i]}`).join(", ")}`, lines = linesOfTable(kind, labels, sizes);
   const address = ["table", name, ...sizes].join(" ");
   putInAddress(address, most === undefined);
-  const done = (_, { status, text, stopped }) => {
-    const answers = status === 0 ? blocksOf(text).map(termsOf) : [];
-    const isWhole = answers.length === lines.length && answers.every(Boolean);
+  const done = ({ rows }, { stopped }) => {
+    const answers = rows.map((it) => it.status === 0 && termsOf(it.text)), isWhole = answers.every(Boolean);
     if (isWhole) showTable({ title, labels, lines, entries: entriesOf(kind, labels, answers, sizes) }, kind, kind.said(...sizes), address);
     tell(isWhole ? "" : stopped ? "The table was stopped." : "Some line of the table has no answer, so it is not made.");
     return [isWhole ? `${title}: made.` : `${title}: not made.`];
   };
-  return enqueue([{ line: "batch", input: `${lines.join("\n")}\n`, most, done }]);
+  return enqueue([jobOfRows(lines.map((line) => ({ line })), { line: title, most, done })]);
 }
 
 /** What is done for an address that has a table, as `table characters 4`: it is shown, or made. */

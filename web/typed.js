@@ -85,6 +85,8 @@ const withSingleBlanks = (line) => line.trim().replace(/[ \t]+/g, " ");
 function readTyped(typed) {
   const asTyped = typed.trim();
   if (typed.length > LONGEST_LINE) return unread(`${asTyped.slice(0, 400)}..`, [], sentence("long line", { most: LONGEST_LINE.toLocaleString("en") }));
+  const family = familyRead(asTyped);
+  if (family) return family;
   if (isCommand(textsOfWords(asTyped))) return { line: asTyped, changes: [] };
   const { line, changes } = plainLine(asTyped), isHidden = isMisseen(asTyped);
   const help = helpAsked(asTyped) ?? helpAsked(line);
