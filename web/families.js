@@ -233,7 +233,7 @@ function refuseTwoReadings(template, { apart }, kinds, values) {
 /** Whether a name means something in the notations. */
 function isNotation(name) {
   const signs = (line) => line.replace(/ *(?:->|#).*/, "").split(/[\s|]+/).map((it) => it.replace(/^[~␣]+|\?$/g, ""));
-  return !/[λμν]/.test(name) && (LATEX.has(name) || NOTATIONS.split("\n").some((line) => signs(line).includes(name)));
+  return !/[λμν]/.test(name) && !NUMBER_LETTERS.test(name) && (notation().same.has(name) || NOTATIONS.split("\n").some((line) => signs(line).includes(name)));
 }
 
 /** A number in a list, as in `(3n,2n)`. (Alone in brackets `2n` could be two numbers.) */
@@ -249,7 +249,7 @@ function notationOf(template, kinds) {
     const number = text.length > 1 && /\p{L}/u.test(text) ? numberOf(text, kinds) : null;
     if (!kinds.has(text) && !number) return () => text;
     // (2^2 is two parts in a list, and n^2 a number)
-    const isPower = before !== "_" && (after === "^" || RAISED.includes(after || " "));
+    const isPower = before !== "_" && (after === "^" || /[⁰¹²³⁴-⁹]/.test(after));
     if (/[\p{L}\d\\]/u.test(before + after) || isPower || (isAlone && !kinds.has(text))) throw new NoFamily(sentence("family place", { name: text }), index, text.length);
     if (kinds.get(text) !== "list") return (values) => String(number ? number(values) : values.get(text));
     return (values) => (isAlone ? list(values.get(text)) : `(${list(values.get(text))})`);
@@ -263,6 +263,9 @@ function notationOf(template, kinds) {
 function familyRead(typed) {
   const { line, changes } = plainLine(typed), found = line.length > LONGEST || isMisseen(typed) ? null : FAMILY.exec(line);
   if (!found) return null;
+  // (in the notations names with one value each are values of letters)
+  const isRanged = /\.\.|[{∈]|(?<![A-Za-z])(?:in|of)(?![A-Za-z])/u.test(line.slice(found[0].length));
+  if (!isRanged && !GRAMMAR.has(textsOfWords(line)[0])) return null;
   try {
     return { line, changes, family: familyOf((found[1] ?? "").trimEnd(), boundsOf(line, found[0].length), line) };
   } catch (error) {
