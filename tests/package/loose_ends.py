@@ -290,8 +290,8 @@ def test_ctrl_c_while_processes_are_ended():
     gc.collect()
     with Calculator(program=PROGRAM) as last:
         same(last.coef([2], [1], [1]), 1)
-    comes(lambda: len(children()) <= mine + 1)
-    assert descriptors() <= before + 8, (before, descriptors(), hits)
+    # (a process that was ended in the middle gives its descriptors back a moment later)
+    comes(lambda: len(children()) <= mine + 1 and descriptors() <= before + 8)
 
 
 def test_a_thousand_tasks():
