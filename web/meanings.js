@@ -257,6 +257,8 @@ const MEANINGS = {
   coefficientInPlethysm: (atom, both) => asking(reading("plethysm", atom.atoms[0][0], ...both), { kind: "c", at: atom.atoms[0][1] }),
   kostka: (lists) => kostkaOf(...lists),
   kostkaAll: (numbers) => eitherOf(...numbers.slice(1).map((_, i) => kostkaOf(numbers.slice(0, i + 1), numbers.slice(i + 1))).filter((it) => it && !it.zero)),
+  // (one number without a comma: SYT(5) are those of a size, too, and S^3 is a symmetric power, or a sphere)
+  orSize: (list) => doubtful({ isAlone: !list[1] && list.how }, standardOf(list)),
   standardSkew: ([outer, inner]) => (isPartition(outer) && isPartition(inner) && sumOf(inner) <= sumOf(outer) ? kostkaSkew([outer, inner], copies("1", sumOf(outer) - sumOf(inner))) : null),
   ofSize: (letters, list) => (sumOf(list) === Number(letters) ? list : null),
   characterAtCycle: (list, cycle) => (Number(cycle) <= sumOf(list) ? characterOf(list, [cycle, ...(copies("1", sumOf(list) - Number(cycle)) || [])]) : null),
@@ -282,7 +284,8 @@ const MEANINGS = {
   integral: (lists, space) => classCoefficient(MEANINGS.point(), lists, space),
   invariant: (a, b, c, q, space) => classCoefficient(dualOf(inFull(c, space), space), [a, b], space, Number(q)),
   degree: (space) => (space.rows * space.columns <= LIMITS.degree ? standardOf(rectangle(space), "degree") : tooMuch()),
-  lines: (count, dimension) => MEANINGS.planes("2", Number(dimension) + 1, count, String(Number(dimension) - 1)),
+  // (a line meets a line in one condition in three dimensions, and in no other number)
+  lines: (count, dimension) => MEANINGS.planes("2", dimension === "3" && 4, count, "2"),
   planes: (k, n, count, other) => (n - k === Number(other) && k * other === Number(count) && boxOf(k, n - k) ? MEANINGS.degree(boxOf(k, n - k)) : null),
   // (labels of Dynkin are k-1 numbers with a sum of at most the level)
   fusionFor: (given, rows, level) => {

@@ -226,7 +226,7 @@ Plethysm "a plethysm" = Power ~[ Sum ] -> composed  # h_2[h_3]
   | Power . plethysm ( Sum ) -> composed  # Sage
   | plethysm of Power By Power -> composed
   | plethysm Power of Power -> composed
-  | plethysm of? Plethysm -> 3
+  | plethysm of|:? Plethysm -> 3
 Omega = ω Family Index -> omega  # ω s_{3,1} is s_{2,1,1} (what follows could be under it, too)
   | ω ( Family Index ) -> omega
   | ω of Family Index -> omega
@@ -320,7 +320,7 @@ Coproduct = Δ of Arg -> 3
   | Δ s Index -> 3
   | Δ ( s Index ) -> 4
   | s Index . coproduct ( ) -> 2
-  | coproduct of? Arg -> 3
+  | coproduct of|:? Arg -> 3
   | s Index ~( x , y ) ProductsOf -> 2
   | s Index ~( x , y ) -> ? 2  # or the polynomial in two variables
   | Sch Index ~( V ⊕ W ) -> 2
@@ -395,7 +395,7 @@ OfShape = of -> ""
 OfContent = ,|and|with? content|weight|type -> ""
 Question = Count Semistandard OfShape? Arg OfContent Arg -> kostkaOf 4 6
   | Count Semistandard OfShape? Skew OfContent Arg -> kostkaSkew 4 6
-  | Count Standard OfShape? Arg -> standardOf 4
+  | Count Standard OfShape? Arg -> orSize 4  # #SYT(5): of a shape, or of a size
   | Count tableaux OfShape? Arg -> ? standardOf 4  # standard, or semistandard
   | standardtableaux ( Square ) Cardinality -> standardOf
   | semistandardtableaux ( Square , Square ) Cardinality -> kostkaOf
@@ -413,7 +413,8 @@ Question = f Upper -> standardOf  # f^{(3,2,1)}
   | f ~^ ~{ Shapes } -> standardSkew 4
   | hook length formula? of|for|: dimension? of? Arg -> standardOf 7
   | dimension of? specht module? Arg -> standardOf 5
-  | dimension of? S Above -> standardOf 4
+  | dimension of? S Upper -> orSize
+  | dimension of? S ~^ ~Digits -> ? standardOf
   | dimension of? irrep|representation|module|irreducible specht|representation|module? Arg -> ? standardOf 5  # of which group?
   | dimension of? Irreducible? labelled? by? OfSize -> standardOf
   | dimension of? Arg -> ? standardOf 3
@@ -558,7 +559,7 @@ Question = Classes ,|:? Where -> classesIn
   | product of? Both Where -> classesIn
   | quantum product of? Both QWhere -> classesIn
   | quantum product of? ClassPair QWhere -> classesIn
-  | quantum ~: Classes QWhere -> classesIn
+  | quantum product? ~: Classes QWhere -> classesIn
   | Classes mod q ,? OWhere -> classesIn
   | q - term of? Classes QWhere -> ? classesIn
   | ∫ ~_ ~{ GrOf } Classes -> integral 6 4
@@ -947,9 +948,10 @@ Line = LrCalc -> 1
   | Line , on one line -> onOneLine
 Asked = Question -> 1
   | Ask Asked -> 2
+  | murnaghan -? nakayama? rule? for|of? Asked -> ? 6  # of characters, and of p_r s_λ
 Ask = compute|calculate|evaluate|find|decompose|draw|show|list|give|apply|do|class -> ""
   | what is|are? -> ""
-  | pieri|murnaghan -? nakayama? rule? for? of? -> ""
+  | pieri rule? for? of? -> ""
   | how do|can I|we -> ""
-  | quantum? pieri|product|plethysm|coproduct ~: -> ""
+  | pieri|product ~: -> ""
 `;

@@ -88,7 +88,8 @@ function withValues(signs) {
     for (end = begin; OF_VALUES.includes(kindAt(end)); ) end += 1;
     while (end > begin && kindAt(end - 1) === ",") end -= 1;
     const value = signs.slice(begin, end), isBare = NUMBER_LETTERS.test(kindAt(at)) || (["(", "[", "{"].includes(kindAt(begin)) && [")", "]", "}"].includes(kindAt(end - 1)));
-    if (end === begin) return signs;
+    // (a letter with two values has none)
+    if (end === begin || values.has(kindAt(begin - 2))) return signs;
     for (; at < begin; at += 2) values.set(kindAt(at), isBare ? value : [{ kind: "[" }, ...value, { kind: "]" }]);
     for (at = end; [",", ";", ":", "and"].includes(kindAt(at)); ) at += 1;
   }
