@@ -60,7 +60,9 @@ def asked_words(formula, asked):
         k, n = map(int, re.findall(r"\d+", formula))
         return f"expand m s[{','.join([str(n - k)] * k)}]"
     if asked == "c":
-        return joined("mult", indices(formula.split(" in ")[1], "s"))
+        family, whole = re.fullmatch(rf"the coefficient of ([mehps]){INDEX} in (.*)", formula).groups()
+        factors = indices(whole, "s")
+        return joined("mult", factors) if factors else f"expand {family} {expression(whole)}"
     if asked == "H":
         product, k, n = re.fullmatch(r"(.*) in H\*\(Gr\((\d+),(\d+)\)\)", formula).groups()
         return joined("quantum", indices(product, "σ"), "-", k, str(int(n) - int(k)))

@@ -13,7 +13,8 @@ vm.runInThisContext(fs.readFileSync(script, "utf8"));
 const [read, isRaw, notation_, signsOf_, parsed_, computed, typedOf_, plain] = vm.runInThisContext("[readTyped, (it) => isCommand(textsOfWords(it)), notation, signsOf, parsed, computedBy, typedOf, plainFormula]");
 
 let state = Number(seed);
-const random = (n) => ((state = (state * 1103515245 + 12345) % 2147483648), Math.floor((state / 2147483648) * n));
+// (the product of two numbers of 31 bits is kept whole by imul alone: else the numbers come round after some thousands)
+const random = (n) => ((state = (Math.imul(state, 1103515245) + 12345) & 0x7fffffff), Math.floor((state / 2147483648) * n));
 const pick = (list) => list[random(list.length)];
 
 // ---- made lines: lists, functions and signs beside each other, a tenth of them with one sign changed
