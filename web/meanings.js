@@ -155,7 +155,9 @@ function classesIn(given, space) {
   const lists = space && given && given.map((it) => inFull(it, space));
   if (!areMany(lists) || !lists.every(isPartition)) return null;
   const made = reading("quantum", String(space.rows), String(space.columns), between(lists));
-  return space.isQuantum ? made : asking(made, { kind: "H" }, !lists.every((it) => isInBox(it, space)));
+  if (space.isQuantum) return made;
+  const ordinary = asking(made, { kind: "H" }, !lists.every((it) => isInBox(it, space)));
+  return given.how === "star" ? eitherOf(ordinary, made) : ordinary;
 }
 /** The coefficient of a class in a product of classes: without q, or with the power of q that the degrees leave. */
 function classCoefficient(list, lists, space, q = 0) {
@@ -213,7 +215,8 @@ const MEANINGS = {
   exponentBraced: (times) => [times, ""],
   list: (...all) => all,
   add: (list, more) => (list.length < 2 * LIMITS.values ? [...list, more] : tooMuch()),
-  addAll: (list, more) => few([...list, ...more]),
+  addAll: (list, more) => few(typedWith(list.how, [...list, ...more])),
+  addStarred: (list, more) => MEANINGS.addAll(typedWith("star", list), more),
   listPower: (list, [times, rest]) => (rest || Number(times) < 1 ? null : Number(times) > LIMITS.factors ? tooMuch() : Array(Number(times)).fill(list)),
   // expressions
   atom: (family, list) => (isPartition(list) ? { ...expression(atomText(family, list), [[family, list]]), isCalled: list.how === "called" } : null),

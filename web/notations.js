@@ -547,7 +547,8 @@ ClassPower = Class -> list
   | σ IndexPower -> list
   | Class Exp -> listPower
 Classes = ClassPower -> 1
-  | Classes Dot ClassPower -> addAll
+  | Classes *|⊗|∪|∩ ClassPower -> addAll
+  | Classes ∗ ClassPower -> addStarred  # the quantum product, or that of H*
   | Classes ClassPower -> addAll
 ClassPair = Classes By Classes -> addAll
 ProductOf = cup? product of? -> ""
