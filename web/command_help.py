@@ -56,7 +56,7 @@ class Command:
         if self.order:
             parts.append(f"<p>{' '.join(manual.clause(begin) for begin in self.order)}</p>")
         if self.limits:
-            row = '<tr><th scope=row>{}</th><td>{}</td></tr>'.format
+            row = '<tr><th scope=row>{}<td>{}'.format
             limits = "".join(row(html.escape(name), html.escape(manual.limit(name))) for name in self.limits)
             parts.append(f'<table class=limits>{limits}</table>')
         return "".join(parts)
