@@ -216,6 +216,53 @@ def by_sage(copies):
     return ""
 
 
+# What Sage says of each text: of an equation whether both sides are equal, of terms their list, and nothing of other values.
+ASKED_OF_SAGE = """
+import json, sys
+from sage.all import *
+from sage.repl.preparse import preparse
+def terms(value, line):
+    found = value.dict() if line.startswith("schubert ") and hasattr(value, "dict") else getattr(value, "monomial_coefficients", dict)()
+    if line.startswith("quantum "):
+        return sorted([[int(power), *map(int, key)], str(c)] for key, all_ in found.items() for power, c in all_.dict().items())
+    return sorted([list(map(int, key)), str(c)] for key, c in found.items())
+said = []
+for line, text, is_of_terms in json.load(open(sys.argv[1])):
+    *names, last = text.split("\\n")
+    room = dict(globals())
+    for name in names:
+        exec(preparse(name), room)
+    if " == " in last:
+        said.append(bool(eval(preparse(last), room)))
+    elif is_of_terms:
+        said.append(terms(eval(preparse(last), room), line))
+    else:
+        exec(preparse(last), room)
+        said.append(None)
+print(json.dumps(said))
+"""
+
+
+def by_sage_itself(copies):
+    """Sage reads each text: of an equation both sides are equal by its own computing, and of others the terms are those that were printed."""
+    copies = [it for it in copies if it["sage"] is not None]
+    with tempfile.TemporaryDirectory() as room:
+        with open(f"{room}/texts.json", "w", encoding="utf-8") as file:
+            json.dump([[it["line"], it["sage"], is_of_terms(it["line"])] for it in copies], file)
+        done = subprocess.run(["sage", "-python", "-c", ASKED_OF_SAGE, f"{room}/texts.json"], capture_output=True, text=True, stdin=subprocess.DEVNULL)
+    if done.returncode:
+        return done.stderr[-600:]
+    for it, said in zip(copies, json.loads(done.stdout.splitlines()[-1])):
+        if isinstance(said, list) and it["line"] != "schubert 1 2":
+            # (which is 1, a number for Sage; a label has the numbers of its power of q and of its partition)
+            wanted = sorted([[*([key[0], *key[1]] if it["line"].startswith("quantum") else key[0])], str(c)] for key, c in printed_terms(it["text"]))
+            if sorted([trimmed(key) if it["line"].startswith("schubert") else key, c] for key, c in said) != wanted:
+                return f"{it['line']}: {said}, not {wanted}"
+        elif said is False:
+            return f"{it['line']}: its sides are not equal"
+    return ""
+
+
 def trimmed(numbers):
     numbers = list(numbers)
     while numbers and numbers[-1] == 0:
@@ -319,6 +366,10 @@ def tried(tally, build, printed, program):
     tally.count("copies: the examples of the theorems", examples(build, printed))
     tally.count("copies: read back by the package", by_python(copies, program))
     tally.count("copies: read back as Sage's names", by_sage(copies))
+    if os.path.exists("/usr/bin/sage"):
+        tally.count("copies: computed by Sage", by_sage_itself(copies))
+    else:
+        tally.skip("copies, computed by Sage", "/usr/bin/sage")
     tally.count("copies: tables", by_csv(copies))
     tally.count("copies: LaTeX read back", by_latex_read(copies))
     if has_latex():
