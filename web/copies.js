@@ -46,6 +46,7 @@ const SAGE_LEFT = {
     return `(s(${left})*s(${right})).coefficient(${outer})`;
   },
   coprod: (of) => `s(${sageParts(of("partition")[0])}).coproduct()`,
+  schubert: (of) => `SchubertPolynomialRing(ZZ)(${list(of("permutation")[0].map(plainNumber))}).expand()`,
   schubmult: (of) => of("permutation").map((it) => `X(${list(it.map(plainNumber))})`).join("*"),
   expand: (of) => `${of("basis")[0][0]}(${sageExpression(of("expression")[0][0])})`,
   plethysm: (of) => `${of("basis")[0][0]}((${sageExpression(of("outer")[0][0])}).plethysm(${sageExpression(of("inner")[0][0])}))`,
@@ -53,10 +54,10 @@ const SAGE_LEFT = {
 
 /** The left side of the equation of a line in Sage, with ` == `; nothing, where it is not written. */
 function sageLeft(line) {
-  const of = argumentsOf(line), made = SAGE_LEFT[textsOfWords(line)[0]];
-  if (!made || of("variables").length > 0) return "";
+  const of = argumentsOf(line), made = SAGE_LEFT[textsOfWords(line)[0]], [variables] = of("variables");
+  if (!made) return "";
   const isNumber = ["outer", "inner"].some((role) => of(role).length > 0 && !/[mehps]/.test(of(role)[0][0]));
-  return isNumber ? "" : `${made(of)} == `;
+  return isNumber ? "" : `${variables ? `(${made(of)}).restrict_partition_lengths(${plainNumber(variables[0])}, exact=False)` : made(of)} == `;
 }
 
 /** The equation of an answer for Sage, after the lines that define its names, or its right side; null if Sage has no such thing. */
