@@ -116,7 +116,7 @@ COPIES = [
     ("mult 1 - 1", "Copy TSV", "label\tcoefficient\n[2]\t1\n[1,1]\t1\n"),
     ("mult -m 1 - 1", "Copy LaTeX", "s_{(1)} \\cdot s_{(1)} = s_{(2)} + s_{(1,1)}"),
     ("mult -r 2 1 1 - 1", "Copy LaTeX", "s_{(1,1)} \\cdot s_{(1)} = s_{(2,1)}\\quad \\text{in}\\ 2\\ \\text{variables}"),
-    ("mult -r 2 1 1 - 1", "Copy for Sage", S + "1*s([2,1])"),
+    ("mult -r 2 1 1 - 1", "Copy for Sage", S + "(s([1,1])*s([1])).restrict_partition_lengths(2, exact=False) == 1*s([2,1])"),
     ("mult -r 2 1 1 - 1", "Copy for Python", PY % ("calc.s.in_variables(2)({(2, 1): 1})", "calc.mult([1, 1], [1], rows=2)")),
     ("coef 3 2 1 - 2 1 - 2 1", "Copy LaTeX", "c_{(2,1),(2,1)}^{(3,2,1)} = 2"),
     ("coef 3 2 1 - 2 1 - 2 1", "Copy for Sage", S + "(s([2,1])*s([2,1])).coefficient([3,2,1]) == 2"),
