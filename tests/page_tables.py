@@ -133,7 +133,7 @@ COPIES = [
     ("quantum 2 2 1 - 2 1", "Copy for Sage", "q = QQ['q'].gen(); s = SymmetricFunctions(q.parent()).s()\n1*q^0*s([2,2])+1*q^1*s([])"),
     ("quantum 2 2 1 - 2 1", "Copy TSV", "label\tpower of q\tcoefficient\n[2,2]\t0\t1\n[]\t1\t1\n"),
     ("schubert 1 3 2", "Copy LaTeX", "\\mathfrak{S}_{132} = x_{1} + x_{2}"),
-    ("schubert 1 3 2", "Copy for Sage", "(x0,x1,) = PolynomialRing(ZZ, ['x0','x1']).gens()\n1*x0^1+1*x0^0*x1^1"),
+    ("schubert 1 3 2", "Copy for Sage", "(x0,x1,) = PolynomialRing(ZZ, ['x0','x1']).gens()\nSchubertPolynomialRing(ZZ)([1,3,2]).expand() == 1*x0^1+1*x0^0*x1^1"),
     ("schubmult 1 3 2 - 1 3 2", "Copy for Sage", "X = SchubertPolynomialRing(ZZ)\nX([1,3,2])*X([1,3,2]) == 1*X([1,4,2,3])+1*X([2,3,1])"),
     ("dschubmult 2 1 - 2 1", "Copy LaTeX", "\\mathfrak{S}_{21}(x; y) \\cdot \\mathfrak{S}_{21}(x; y) = -y_{1} \\mathfrak{S}_{21}(x; y) + y_{2} \\mathfrak{S}_{21}(x; y) + \\mathfrak{S}_{312}(x; y)"),
     ("schubmult 10 1 2 3 4 5 6 7 8 9 - 1", "Copy LaTeX", "\\mathfrak{S}_{10,1,2,3,4,5,6,7,8,9} \\cdot \\mathfrak{S}_{1} = \\mathfrak{S}_{10,1,2,3,4,5,6,7,8,9}"),
