@@ -1,11 +1,12 @@
 //! One coefficient of a product of two Schur polynomials, from a table of states with counts. A
 //! tableau is good for a partition, the start, if start plus the content of its last k columns is a
 //! partition for each k.
-ghost use Rattle.std.specs.Prelude.{◌≡◌, ℕ, ◌+◌, ◌^◌, ◌<◌, ◌≤◌, List, pos, length, take, nat_eq};
-ghost use Rattle.std.specs.Prelude.{IfOk, OnOk, IsErrOf};
+ghost use Rattle.std.specs.Prelude.{◌≡◌, ℕ, ◌+◌, ◌^◌, ◌<◌, ◌≤◌, true, List, pos, length, take, nat_eq};
+ghost use Rattle.std.specs.Prelude.{IfOk, IfSome, OnOk, IsErrOf};
 ghost use Rattle.std.specs.Cmp.Lexicographic.{pointwise};
 ghost use Rattle.sym_model.specs.Partition.{IsPartition, ArePositive, size, rows};
 ghost use Rattle.sym_model.specs.GoodTableau.{product_count};
+ghost use Rattle.sym_model.specs.Schur.{contains};
 ghost use Rattle.sym_model.specs.PastLimit.{HasPast};
 ghost use Rattle.sym_model.specs.Products.{IsProductCoefficientOf};
 ghost use Rattle.lr_product.specs.WeighedSum.{weighed, comes_to};
@@ -112,24 +113,49 @@ fn count_inside(
     if has_no_room(outer, inner, content) {
         return Ok(0);
     }
-    let letters = content.rows();
-    let parts = content.parts();
-    let most = most_states(outer, inside);
-    if let Some(count) = count_by_rows(alloc, outer, inner.parts(), parts, most)? {
+    let most = most_additions(outer, inside);
+    if let Some(count) = count_in_rows(alloc, outer, inner, content, most)? {
         return Ok(count);
     }
+    let letters = content.rows();
+    let parts = content.parts();
     let table = ways_by_columns(alloc, &[], outer, inner.parts(), letters, parts)?;
     Ok(count_of(&table, parts))
 }
 
-/// The number of states up to which the tableaux are counted by rows; beyond it the columns are
-/// usually faster, whose states are about as many as the partitions inside the content. Up to six
-/// rows there is no limit.
-fn most_states(outer: &Partition, inside: u64) -> usize {
+/// The number of lattice tableaux of the skew shape outer/inner with the content `content`, counted
+/// by rows; 2^127 if it is greater. Of `inner` and `content`, which can be exchanged, the one with
+/// more parts is the inner shape, since a row is filled in the more ways, the more letters there
+/// are. `None` if the tableaux are not counted: a row can be added in more than `most` ways, say.
+fn count_in_rows(
+    alloc: Global,
+    outer: &Partition,
+    inner: &Partition,
+    content: &Partition,
+    most: usize,
+) -> Result<Option<u128>, NoMemory>
+    requires shape { IsPartition outer.now }
+    requires size { size outer.now ≤ 4096 }
+    requires inside { contains outer.now inner.now ≡ true }
+    requires content { contains outer.now content.now ≡ true }
+    ensures agrees { IfOk result (λ o. IfSome o (λ count. Agree count
+        (product_count (rows outer.now) inner.now content.now outer.now))) }
+{
+    if inner.rows() < content.rows() {
+        return count_by_rows(alloc, outer, content.parts(), inner.parts(), most);
+    }
+    count_by_rows(alloc, outer, inner.parts(), content.parts(), most)
+}
+
+/// The number of ways to add a row up to which the tableaux are counted by rows; beyond it the
+/// columns are usually faster, whose states are at most about as many as the partitions inside the
+/// content, `inside`. Large numbers say little, so that the rows tried in vain take only some tenths
+/// of a second, or a small part of the time of the columns. Up to six rows there is no limit.
+fn most_additions(outer: &Partition, inside: u64) -> usize {
     if outer.rows() <= 6 {
         return usize::MAX;
     }
-    (inside / 8) as usize
+    (inside / 5).min((inside / 1024).max(1 << 20)) as usize
 }
 
 /// The total count of those states of the table that begin with the numbers of `parts`, or 2^127 if

@@ -20,8 +20,8 @@ use std::alloc::Global;
 /// `letters`. The row ends in column `end`, its first `outside` places are outside the shape, and
 /// the rows below it have `later` cells. New states keep the row if `is_kept`. The counts, capped
 /// at 2^127, are correct for the sums in which, at each index of `bound`, the number is at most the
-/// number b of `bound` and at least b - `later`. `None` if the table has more than `most` states.
-/// Fails only if memory runs out.
+/// number b of `bound` and at least b - `later`. `None` if the row can be added to the states in
+/// more than `most` ways. Fails only if memory runs out.
 pub(crate) fn with_row(
     alloc: Global,
     table: &States,
@@ -61,7 +61,7 @@ pub(crate) fn with_row(
             ways: capped(ways),
         };
         add_rows(&mut reached, &mut next, state, end, bound, row)?;
-        if next.len() > most {
+        if next.additions() > most {
             return Ok(None);
         }
     }

@@ -63,7 +63,7 @@ pub(crate) fn with_shape(
             rows,
             usize::MAX,
         )?;
-        // There is no memory for more states than `usize::MAX`.
+        // No count exceeds `usize::MAX`.
         let Some(table) = all else {
             return Err(NoMemory);
         };
@@ -94,7 +94,7 @@ fn is_faster_by_rows(outer: &Partition, letters: u16, has_one_start: bool) -> bo
 /// The table of the states reached from those of `starts` by adding the first `rows` rows of
 /// outer/inner, with letters up to `letters`. Its counts, capped at 2^127, are correct for the sums
 /// from which sums that begin with the numbers of `bound` are reached by the other rows. `None` if a
-/// table has more than `most` states. Fails only if memory runs out.
+/// row can be added to the states before it in more than `most` ways. Fails only if memory runs out.
 fn with_rows(
     alloc: Global,
     starts: States,

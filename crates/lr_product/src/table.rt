@@ -22,6 +22,8 @@ pub(crate) struct Table {
     /// slot of a state is the first slot, from the one given by its hash on, that was free when the
     /// state was added. At most half of the slots are taken.
     slots: Vec<u32>,
+    /// The number of calls of `add`.
+    additions: usize,
 }
 
 impl Model for Table {
@@ -43,6 +45,7 @@ impl Table {
         Ok(Table {
             states: States::with_room(alloc, width, room)?,
             slots: vec![in alloc; 0; room.saturating_mul(2)]?,
+            additions: 0,
         })
     }
 
@@ -55,6 +58,7 @@ impl Table {
             → Agree (weighed n f self.new.entries)
             (weighed n f self.old.entries + count * at_state n f state.now)) }
     {
+        self.additions = self.additions.saturating_add(1);
         match find(&self.slots, &self.states, state) {
             Ok(at) => {
                 self.states.add_at(at, count);
@@ -81,9 +85,10 @@ impl Table {
         Ok(())
     }
 
-    /// The number of states.
-    pub(crate) fn len(&self) -> usize {
-        self.states.len()
+    /// How often a state was added to the table. It is at least the number of states, and tells
+    /// better than that how long the table has taken.
+    pub(crate) fn additions(&self) -> usize {
+        self.additions
     }
 
     /// The list of the states with their counts.
@@ -93,6 +98,7 @@ impl Table {
         let Table {
             states,
             slots: _slots,
+            additions: _additions,
         } = self;
         states
     }
