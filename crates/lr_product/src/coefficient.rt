@@ -124,9 +124,10 @@ fn count_inside(
 }
 
 /// The number of lattice tableaux of the skew shape outer/inner with the content `content`, counted
-/// by rows; 2^127 if it is greater. Of `inner` and `content`, which can be exchanged, the one with
-/// more parts is the inner shape, since a row is filled in the more ways, the more letters there
-/// are. `None` if the tableaux are not counted: a row can be added in more than `most` ways, say.
+/// by rows; 2^127 if it is greater. `inner` and `content` are exchanged if that makes the letters
+/// fewer, since the ways to add a row grow with them. `None` if a row can be added in more than
+/// `most` ways, or for the other reasons for which `count_by_rows` does not count. Fails only if
+/// memory runs out.
 fn count_in_rows(
     alloc: Global,
     outer: &Partition,
@@ -148,9 +149,9 @@ fn count_in_rows(
 }
 
 /// The number of ways to add a row up to which the tableaux are counted by rows; beyond it the
-/// columns are usually faster, whose states are at most about as many as the partitions inside the
-/// content, `inside`. Large numbers say little, so that the rows tried in vain take only some tenths
-/// of a second, or a small part of the time of the columns. Up to six rows there is no limit.
+/// columns are usually faster. They have at most about as many states as there are partitions inside
+/// the content, `inside`, but if these are many, often far fewer: so no more than 2^20 ways are tried
+/// in vain, or a small part of `inside`. Up to six rows there is no limit.
 fn most_additions(outer: &Partition, inside: u64) -> usize {
     if outer.rows() <= 6 {
         return usize::MAX;

@@ -143,9 +143,9 @@ fn with_rows(
 }
 
 /// The number of ways to fill outer/inner with the content `content`, or 2^127 if it is greater. The
-/// shape is filled by rows, and the last two rows are counted together. `None` if a table has more
-/// than `most` states, if there is no letter, if there are fewer than two rows, or if a sum exceeds
-/// 2^128 - 1. Fails only if memory runs out.
+/// shape is filled by rows, and the last two rows are counted together. `None` if a row can be added
+/// to the states before it in more than `most` ways, if there is no letter, if there are fewer than
+/// two rows, or if a sum exceeds 2^128 - 1. Fails only if memory runs out.
 pub(crate) fn count_by_rows(
     alloc: Global,
     outer: &Partition,

@@ -1,11 +1,6 @@
-use Rattle.std.proofs.Common.{[], length, sym, ap₂, subst, ◌∙◌, List, ℕ}
-use Rattle.std.specs.Prelude.{IfSome}
-use Rattle.sym_model.specs.Polynomial.{resize}
-use Rattle.tableau_laws.specs.ColumnFold.{column_lines}
-use Rattle.lr_product.specs.Capped.{Agree}
-use Rattle.lr_product.specs.WeighedSum.{over_states, comes_to}
-use Rattle.lr_product.proofs.Agreeing.{agree_same, agree_then}
-use Rattle.lr_product.proofs.Sums.{counted_shape, states-shape}
+use Rattle.std.proofs.Common.{sym}
+use Rattle.lr_product.proofs.Agreeing.{agree_same}
+use Rattle.lr_product.proofs.Sums.{counted_shape}
 use Rattle.lr_product.proofs.coefficient.count_inside.Goals as goal
 
 pub returns-then-has_no_room-clause-agrees : goal.returns-then-has_no_room-clause-agrees
