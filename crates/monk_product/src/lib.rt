@@ -16,6 +16,7 @@
 //! for both types.
 #![tactic(auto)]
 
+mod chains;
 mod monk;
 mod product;
 mod short_monk;
