@@ -3,8 +3,8 @@
 --     adds_cover, skips_cover    one more cover at a place
 --     rises, stays               whether an exchange is a cover, by the greatest smaller letter between the two places
 --     at_end_raised, at_end_kept     one more letter at the end of a list of which the greatest letter less than a given one is known
-use Rattle.std.proofs.Common.{◌≡◌, ◌⊎◌, ℕ, suc, ◌+◌, ◌-◌, ◌<◌, ◌≤◌, ◌==◌, ◌&&◌, ◌||◌, Bool, true, false, not, cond, nat_lt, List, [], ◌∷◌, ◌++◌, length, take, drop, map, flat_map, get_or, refl, sym, ap, ap₂, ◌∙◌, subst, inl, inr, arith, ℤ, ◌+ℤ◌, ◌*ℤ◌, nat_le, eqb-true, append-nil}
-use Rattle.std.specs.List.{list_any, swap}
+use Rattle.std.proofs.Common.{◌≡◌, ◌⊎◌, ℕ, suc, ◌+◌, ◌-◌, ◌<◌, ◌≤◌, ◌==◌, ◌&&◌, ◌||◌, Bool, true, false, not, cond, nat_lt, List, [], ◌∷◌, ◌++◌, length, take, drop, map, flat_map, get_or, refl, sym, ap, ap₂, ◌∙◌, subst, inl, inr, arith, ℤ, ◌*ℤ◌, nat_le, append-nil}
+use Rattle.std.specs.List.{swap}
 use Rattle.std.proofs.lemmas.Bool.{cases_lt, lt-ltb, le-ltb, le-leb, lt-leb}
 use Rattle.std.proofs.lemmas.Int.{ints}
 use Rattle.std.proofs.lemmas.List.{drop_more, take_all, length-drop, get_or_default}
@@ -13,20 +13,19 @@ use Rattle.std.proofs.Math.Bool.{or_comm}
 use Rattle.sym_model.specs.Sum.{Among, total}
 use Rattle.sym_model.specs.Partition.{after}
 use Rattle.sym_model.specs.PlaceOrders.{inversions, places}
-use Rattle.sym_model.specs.Permutation.{with_fixed, kept, times_swap, covers_among, covers_down}
+use Rattle.sym_model.specs.Permutation.{with_fixed, kept, times_swap, covers_down}
 use Rattle.sym_model.proofs.AfterLists.{among_after}
 use Rattle.sym_model.proofs.Sums.{Among-map, Among-select}
 use Rattle.schubert_laws.specs.ShortPermutations.{IsShort}
 use Rattle.schubert_laws.proofs.FixedTails.{kept_added}
 use Rattle.schubert_laws.proofs.IndependentSchuberts.{length-with_fixed}
 use Rattle.double_schubert_laws.proofs.KeptChains.{fixed_one_line, before_short}
-use Rattle.double_schubert_laws.specs.KeptChains.{kept_lifted, kept_chains, less_among}
-use Rattle.schubert_laws.specs.Chains.{letters_before}
+use Rattle.double_schubert_laws.specs.KeptChains.{kept_chains, less_among}
 use Rattle.schubert_laws.proofs.ChainSums.{place_is}
 use Rattle.schubert_laws.proofs.Swaps.{among_get}
 use Rattle.linear_combinations.specs.Gains.{WholeTermsOf, Gains, each_with, over}
 use Rattle.linear_combinations.proofs.Gains.{each_append, gains_none, gains_both, gains_as, over_append, each_over}
-use Rattle.perm_codes.proofs.OneSwap.{lies_between, rising_test, falling_test}
+use Rattle.perm_codes.proofs.OneSwap.{rising_test, falling_test}
 use Rattle.monk_product.specs.ShortPerms.{IsFilled, IsGreatestBelow}
 use Rattle.monk_product.proofs.ChainLists.{ends, ends_to, ends_at, next_ends, walk_next, walk_all, cut, by_places, letter_short, less_short}
 use Rattle.monk_product.proofs.ShortPerms.{exchange_test}
@@ -126,8 +125,7 @@ first_of a p u h l =
 pub filled_short : (n : ℕ) (w : List ℕ) → IsShort n w → n ≤ 32 → IsFilled (with_fixed 32 w) (inversions (with_fixed 32 w)) × (kept (with_fixed 32 w) ≡ w)
 filled_short n w s l =
     let short = s.short in
-    let wide : IsShort 32 w = record { one_line = s.one_line; short = omega arith; some = s.some; whole = s.whole } in
-    (
+    let wide : IsShort 32 w = record { one_line = s.one_line; short = omega arith; some = s.some; whole = s.whole } in (
       record { one_line = fixed_one_line 32 w wide; long = length-with_fixed 32 w wide.short; count_is = refl },
       kept_added w (32 - length w) s.some ∙ s.whole,
     )

@@ -1,15 +1,14 @@
 -- The product of a sum of Schubert polynomials and an elementary polynomial, by the chains of the Pieri formula. Two polynomials are compared by the
 -- sums of c·φ(α) over their terms c·x^α (`pair`).
-use Rattle.std.proofs.Common.{◌≡◌, ℕ, ◌+◌, ◌<◌, ◌≤◌, max, true, List, [], ◌∷◌, length, refl, sym, ap, ap₂, ◌∙◌, subst, append-nil, arith, ℤ, ◌+ℤ◌, ◌*ℤ◌}
-use Rattle.std.specs.Prelude.{nat_eq, nat_lt}
+use Rattle.std.proofs.Common.{◌≡◌, ℕ, ◌+◌, ◌≤◌, max, true, List, [], ◌∷◌, length, sym, ap, ap₂, ◌∙◌, subst, append-nil, arith, ℤ, ◌+ℤ◌, ◌*ℤ◌}
+use Rattle.std.specs.Prelude.{nat_eq}
 use Rattle.std.specs.Cmp.Lexicographic.{pointwise}
 use Rattle.std.proofs.lemmas.Bool.{and_parts, leb-true, ltb-true}
-use Rattle.std.proofs.lemmas.Int.{ints}
 use Rattle.fraction_laws.specs.Fractions.{whole}
 use Rattle.sym_model.specs.LabelLimits.{is_permutation_label}
 use Rattle.sym_model.specs.Polynomial.{pair, times}
 use Rattle.sym_model.specs.Schubert.{schubert_in, schuberts_in}
-use Rattle.sym_model.specs.Sum.{Among, total}
+use Rattle.sym_model.specs.Sum.{Among}
 use Rattle.sym_model.specs.WholeTerms.{WholeTerms}
 use Rattle.sym_model.proofs.Exponents.{same_true}
 use Rattle.sym_model.proofs.Polynomials.{pair_determined, pair_each}

@@ -90,13 +90,13 @@ add_chains_at-add_chains-requires t c =
       omega arith,
       (
         cover_short c.args.n (c.loop-at.at - 1) c.args.place c.args.w.now c.raised.result
-        c.requires.short (omega arith) c.requires.inside c.raised.ensures
-        (is_cover c.args.n c.loop-at.at c.args.place c.args.k c.args.left
-        c.letter-letter.result c.letter-other.result c.loop-at.low c.args.w.now c.requires.short
-        c.requires.few (omega arith) (omega arith)
-        c.requires.later c.requires.inside c.letter-letter.ensures c.letter-other.ensures
-        c.loop-at.invariant.low (omega (arith, c.if-low-other.true))
-        (omega (arith, c.if-other-letter.true))),
+            c.requires.short (omega arith) c.requires.inside c.raised.ensures
+            (is_cover c.args.n c.loop-at.at c.args.place c.args.k c.args.left
+            c.letter-letter.result c.letter-other.result c.loop-at.low c.args.w.now c.requires.short
+            c.requires.few (omega arith) (omega arith)
+            c.requires.later c.requires.inside c.letter-letter.ensures c.letter-other.ensures
+            c.loop-at.invariant.low (omega (arith, c.if-low-other.true))
+            (omega (arith, c.if-other-letter.true))),
         (c.requires.few, (omega arith, omega arith)),
       ),
     )
@@ -128,7 +128,7 @@ add_chains_at-loop-at-preserved t c =
     let some = c.loop-at-test.true in
     let first = c.loop-at.auto.at in
     let so : (c.letter-other.result < c.loop-at.low)
-        ⊎ (c.letter-letter.result ≤ c.letter-other.result) =
+    ⊎ (c.letter-letter.result ≤ c.letter-other.result) =
     elim c.else-low-other.branch [
       | add_chains_at-else-low-other-via-then-low-other+else-other-letter w ↦
           inr (omega (arith, w.if-other-letter.false))

@@ -1,9 +1,8 @@
-use Rattle.std.proofs.Common.{◌≡◌, ◌+◌, ◌≤◌, [], ◌∷◌, ◌++◌, map, length, true, max, sym, ◌∙◌, subst, arith, ℤ, ◌*ℤ◌}
+use Rattle.std.proofs.Common.{◌≡◌, ◌+◌, [], ◌∷◌, ◌++◌, map, sym, ◌∙◌, subst, arith, ◌*ℤ◌}
 use Rattle.std.specs.Map.Iter.{deref_pair}
 use Rattle.std.proofs.lemmas.List.{map-append}
 use Rattle.fraction_laws.proofs.Whole.{whole_fitted}
 use Rattle.sym_model.specs.Sum.{Among}
-use Rattle.sym_model.specs.LabelLimits.{is_permutation_label}
 use Rattle.linear_combinations.specs.Gains.{Gains, replaced}
 use Rattle.linear_combinations.proofs.Gains.{pairs_gain, replaced_append, all_pairs, so_far_next}
 use Rattle.linear_combinations.proofs.Gains.{next_among}

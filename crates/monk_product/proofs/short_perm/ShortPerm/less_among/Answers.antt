@@ -6,7 +6,7 @@ use Rattle.monk_product.proofs.short_perm.ShortPerm.less_among.Goals as goal
 pub returns : goal.returns
 returns c =
     let counted : c.count.result
-        ≡ count_by (λ a. nat_lt a c.args.letter) (take c.args.k c.self.inside.letters) =
+    ≡ count_by (λ a. nat_lt a c.args.letter) (take c.args.k c.self.inside.letters) =
     search rules in
     counted ∙ sym (length-filter (λ a. nat_lt a c.args.letter)
     (take c.args.k c.self.inside.letters))

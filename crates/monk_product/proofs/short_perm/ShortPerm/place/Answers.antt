@@ -18,7 +18,7 @@ loop-place-preserved c =
     let long = c.self.invariant.long in
     let few = c.requires.few in (
       not_yet c.args.letter c.loop-place.place c.self.inside.letters c.self.invariant.one_line
-      c.requires.some (omega arith) c.loop-place.invariant.0 c.loop-place-test.true,
+          c.requires.some (omega arith) c.loop-place.invariant.0 c.loop-place-test.true,
       c.loop-place.invariant.1,
     )
 
