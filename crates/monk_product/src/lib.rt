@@ -18,6 +18,7 @@
 
 mod monk;
 mod product;
+mod row_summands;
 mod short_monk;
 mod short_perm;
 

@@ -7,6 +7,7 @@ ghost use Rattle.std.specs.Option.{option_to_list};
 ghost use Rattle.std.proofs.Common.{ap};
 ghost use Rattle.std.proofs.lemmas.Slice.Eq.{bytes_eq-Decides};
 ghost use Rattle.sym_model.specs.Permutation.{covers_among, kept, times_swap, with_fixed};
+ghost use Rattle.schubert_laws.specs.Chains.{letters_before};
 ghost use Rattle.monk_product.specs.ShortPerms.{IsFilled};
 
 use calc_base::NoMemory;
@@ -106,6 +107,20 @@ impl ShortPerm {
         } else {
             None
         }
+    }
+
+    /// The place of a letter, counted from 0, fixed letters included.
+    pub fn place(&self, letter: u8) -> usize
+        requires some { 1 ≤ letter }
+        requires few { letter ≤ 32 }
+        ensures place { result ≡ letters_before letter (with_fixed 32 self.now) }
+        ensures inside { result < 32 }
+    {
+        let mut place = 0;
+        while self.letters[place] != letter {
+            place += 1;
+        }
+        place
     }
 
     /// The letters of the permutation without the fixed letters at the end.
