@@ -1,5 +1,6 @@
 pub mod OneCover
 pub mod MonkSteps
 pub mod MonkGains
+pub mod RowSums
 pub mod ShortPerms
 pub mod ShortCovers

@@ -1,6 +1,6 @@
 -- A short permutation is stored as 32 letters: its own letters, followed by *fixed* letters, which are equal to their places. Lemmas on these 32
 -- letters, and on the letters without the fixed ones at the end (`kept`).
-use Rattle.std.proofs.Common.{◌≡◌, ℕ, zero, suc, ◌+◌, ◌-◌, ◌<◌, ◌≤◌, ◌==◌, Bool, cond, List, [], ◌∷◌, ◌++◌, length, take, drop, sym, ap, ap₂, ◌∙◌, subst, arith, length-append}
+use Rattle.std.proofs.Common.{◌≡◌, ℕ, zero, suc, ◌+◌, ◌-◌, ◌<◌, ◌≤◌, ◌==◌, Bool, cond, List, [], ◌∷◌, ◌++◌, length, take, drop, get_or, refl, true, false, eqb-true, sym, ap, ap₂, ◌∙◌, subst, arith, length-append}
 use Rattle.std.specs.Prelude.{nat_eq}
 use Rattle.std.specs.List.{swap}
 use Rattle.std.specs.Cmp.Lexicographic.{pointwise}
@@ -10,6 +10,7 @@ use Rattle.sym_model.specs.Partition.{after}
 use Rattle.sym_model.specs.PlaceOrders.{inversions}
 use Rattle.sym_model.specs.Permutation.{kept, with_fixed, times_swap, covers_among}
 use Rattle.sym_model.proofs.AfterLists.{length_after}
+use Rattle.schubert_laws.specs.Chains.{letters_before}
 use Rattle.schubert_laws.proofs.FixedTails.{inversions_kept}
 use Rattle.schubert_laws.proofs.LowerPermutations.{kept_whole}
 use Rattle.schubert_laws.proofs.TransitionFromOne.{times_swap_kept}
@@ -107,3 +108,18 @@ cover_is u w n a b t e f h l q =
     inversions_kept (swap u a b) (short_swap u a b (omega arith) (omega arith) s).one_line in
     ap₂ (λ y k. cond (inversions y == k + 1) (y ∷ []) []) x i
     ∙ ap (λ c. cond c (kept (swap u a b) ∷ []) []) (ap (λ k. k == inversions u + 1) m ∙ q)
+
+-- if a letter stands at no place before k, and not at k, it stands at no place before k + 1
+pub place_after : (m k d : ℕ) (w : List ℕ) → k ≤ letters_before m w → k < length w → (get_or w k d ≡ m → ⊥) → k + 1 ≤ letters_before m w
+place_after m k d [] l h n = absurd (omega arith)
+place_after m zero d (a ∷ w) l h n = by (a == m) refl
+  where
+    by : (t : Bool) → (a == m) ≡ t → 1 ≤ cond t 0 (suc (letters_before m w))
+    by true e = absurd (n (eqb-true a m e))
+    by false e = omega arith
+place_after m (suc k) d (a ∷ w) l h n = by (a == m) l (place_after m k d w)
+  where
+    by : (t : Bool) → suc k ≤ cond t 0 (suc (letters_before m w)) → (k ≤ letters_before m w → k < length w → (get_or w k d ≡ m → ⊥) → k + 1 ≤ letters_before m w)
+        → suc k + 1 ≤ cond t 0 (suc (letters_before m w))
+    by true b rec = absurd (omega arith)
+    by false b rec = let r = rec (omega arith) (omega arith) n in omega arith

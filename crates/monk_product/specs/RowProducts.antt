@@ -7,12 +7,11 @@ use Rattle.sym_model.specs.Partition.{after}
 use Rattle.sym_model.specs.Polynomial.{Poly, In, pair, times}
 use Rattle.sym_model.specs.Permutation.{covers_among, covers_down, times_swap, with_fixed}
 use Rattle.sym_model.specs.Schubert.{schubert_in}
-use Rattle.sym_model.specs.WholeTerms.{WholeTerms}
+use Rattle.sym_model.specs.WholeTerms.{HaveLabels, WholeTerms}
 use Rattle.schubert_laws.specs.Chains.{elementary_in, letters_before}
 use Rattle.schubert_laws.specs.ShortPermutations.{IsShort}
 use Rattle.double_schubert_laws.specs.DiagramRows.{HasLeftAscent, times_rows}
 use Rattle.linear_combinations.specs.Gains.{over, each_with}
-use Rattle.monk_product.specs.Monk.{AreShort}
 use Rattle.monk_product.specs.declared.row_summands.Summand.{Summand}
 
 -- in every number k of variables, the sum of c·S_w over the terms (w, c) of `sum` is `times_rows` of s(k) for these rows at q, a permutation of at most
@@ -47,7 +46,7 @@ IsNullAt n m f = (v : List ℕ) → IsShort n v → HasLeftAscent m (with_fixed 
 -- a + 1, both at most m, in this order
 pub record GainsExcept (n m : ℕ) (old gained new : WholeTerms) : Type 0 where
   pub sums : (f : List ℕ → ℤ) → IsNullAt n m f → over f new ≡ over f old +ℤ over f gained
-  pub short : AreShort n new
+  pub short : HaveLabels (IsShort n) new
 
 -- the covers w·t_rb of w with r < b ≤ n
 abbrev pub covers_to : ℕ → ℕ → List ℕ → List (List ℕ)

@@ -8,7 +8,7 @@ ghost use Rattle.sym_model.specs.PlaceOrders.{minus_one_to};
 ghost use Rattle.schubert_laws.specs.ShortPermutations.{IsShort};
 ghost use Rattle.double_schubert_laws.specs.DiagramRows.{AreWithin, HasLeftAscent};
 ghost use Rattle.linear_combinations.specs.Gains.{over, each_with, replaced};
-ghost use Rattle.monk_product.specs.Monk.{AreShort};
+ghost use Rattle.sym_model.specs.WholeTerms.{HaveLabels};
 ghost use Rattle.monk_product.specs.RowProducts.{AreSummandsAt, IsNullAt, GainsExcept, sum_over};
 ghost use Rattle.monk_product.specs.RowProducts.{covers_to, signed_covers};
 
@@ -19,8 +19,8 @@ use coeff_rings::{Int, Ring, Scalar};
 use linear_combinations::{Label, Lin};
 use std::alloc::Global;
 
-/// The greatest number of permutations in all layers (`layers`), and in the sums that the summands
-/// of one row are made from.
+/// The greatest number of permutations in all layers (`layers`), and in each sum that the summands
+/// of a row are made from.
 pub(crate) const MOST_PERMUTATIONS: usize = 100_000;
 
 /// A summand of a row: `coefficient` times e_d(x_1, .., x_r), for d = `degree` and the number r of
@@ -71,7 +71,7 @@ impl Row {
         requires few { self.now.letters ≤ 32 }
         requires short { (v : List ℕ) → Among v (option_to_list cover)
             → IsShort self.now.letters v }
-        requires was { AreShort self.now.letters sum.old }
+        requires was { HaveLabels (IsShort self.now.letters) sum.old }
         ensures { OnOk result (GainsExcept self.now.letters (self.now.letter - 1) sum.old
             (each_with c (option_to_list cover)) sum.new) }
     {
@@ -95,7 +95,7 @@ impl Row {
         requires few { self.now.letters ≤ 32 }
         requires place { place < self.now.letters }
         requires short { IsShort self.now.letters w.now }
-        requires was { AreShort self.now.letters sum.old }
+        requires was { HaveLabels (IsShort self.now.letters) sum.old }
         ensures { OnOk result (GainsExcept self.now.letters (self.now.letter - 1) sum.old
             (each_with c (covers_down (place + 1) w.now)) sum.new) }
     {
@@ -119,7 +119,7 @@ impl Row {
         requires few { self.now.letters ≤ 32 }
         requires place { place < self.now.letters }
         requires short { IsShort self.now.letters w.now }
-        requires was { AreShort self.now.letters sum.old }
+        requires was { HaveLabels (IsShort self.now.letters) sum.old }
         ensures { OnOk result (GainsExcept self.now.letters (self.now.letter - 1) sum.old
             (each_with c (covers_to self.now.letters (place + 1) w.now)) sum.new) }
     {
@@ -135,7 +135,7 @@ impl Row {
         requires first { 1 ≤ self.now.letter }
         requires last { self.now.letter ≤ self.now.letters }
         requires few { self.now.letters ≤ 32 }
-        requires was { AreShort self.now.letters terms.now }
+        requires was { HaveLabels (IsShort self.now.letters) terms.now }
         ensures { IfOk result (λ sum. GainsExcept self.now.letters (self.now.letter - 1) []
             (replaced (signed_covers self.now.letters self.now.letter) terms.now) sum) }
     {
@@ -163,7 +163,7 @@ impl Row {
     ) -> Result<(), SumFault>
         requires last { self.now.letter ≤ self.now.letters }
         requires few { self.now.letters ≤ 32 }
-        requires short { AreShort self.now.letters terms.now }
+        requires short { HaveLabels (IsShort self.now.letters) terms.now }
         ensures { OnOk result ((f : ℕ → List ℕ → ℤ)
             → IsNullAt self.now.letters self.now.letter (f degree)
             → sum_over f summands.new.items
@@ -188,10 +188,10 @@ fn with_sign(degree: usize, c: Int) -> Result<Int, SumFault>
     ensures { IfOk result (λ signed. signed ≡ minus_one_to degree *ℤ c) }
 {
     if degree % 2 == 0 {
-        Ok(c)
-    } else {
-        c.neg().ok_or(SumFault::Large)
+        return Ok(c);
     }
+    let minus = c.neg().ok_or(SumFault::Large)?;
+    Ok(minus)
 }
 
 /// The summands at `q`, a permutation of at most n letters, of the row i of a diagram, counted from
@@ -233,9 +233,11 @@ pub(crate) fn row_summands(
 /// The permutations at which the values of the first i rows are wanted, for i from 0 to the number
 /// of rows, if the value of all rows is wanted at `p`, a permutation of at most n letters: in the
 /// printed order, each once. Those for i rows include all permutations of the summands of the row
-/// i, counted from 0, at those for i + 1 rows. A row with no cells changes nothing.
+/// i, counted from 0, at those for i + 1 rows. A row with no cells changes nothing. No clause says
+/// this: a caller has to look each permutation up.
 ///
-/// Returns `Large` if there are too many permutations in all (`MOST_PERMUTATIONS`).
+/// Returns `Large` if there are too many permutations in all (`MOST_PERMUTATIONS`), or
+/// `row_summands` does.
 pub(crate) fn layers(
     alloc: Global,
     p: &ShortPerm,
@@ -245,15 +247,12 @@ pub(crate) fn layers(
     let mut layers = Vec::new(alloc);
     let mut layer = Vec::new(alloc);
     layer.push(p.copy()?)?;
-    let mut count = 1;
+    let mut left = MOST_PERMUTATIONS;
     for i in (0..rows.len()).rev() {
         let lower = layer_below(alloc, layer.as_slice(), n, i, rows[i])?;
         layers.push(layer)?;
         layer = lower;
-        count += layer.len();
-        if count > MOST_PERMUTATIONS {
-            return Err(SumFault::Large);
-        }
+        left = left.checked_sub(layer.len()).ok_or(SumFault::Large)?;
     }
     layers.push(layer)?;
     layers.reverse();
