@@ -1,18 +1,16 @@
 -- Lemmas on the summands of a row of a diagram: on tables that gain terms up to those at which a function is 0 (`GainsExcept`), and on the value of a
 -- row (`times_rows`, `one_row`) at permutations that are written without fixed letters at the end.
-use Rattle.std.proofs.Common.{◌≡◌, ℕ, zero, suc, ◌+◌, ◌-◌, ◌<◌, ◌≤◌, Bool, true, false, cond, ◌&&◌, List, [], ◌∷◌, ◌++◌, length, map, take, get_or, refl, sym, ap, ap₂, ◌∙◌, subst, inl, inr, arith, append-nil, ℤ, pos, negsuc, ◌+ℤ◌, ◌*ℤ◌}
-use Rattle.std.specs.Prelude.{nat_abs, neg_ℤ, nat_eq, nat_lt, nat_le, not, flat_map, ◌==◌}
+use Rattle.std.proofs.Common.{◌≡◌, ℕ, suc, ◌+◌, ◌-◌, ◌<◌, ◌≤◌, true, cond, List, [], ◌∷◌, ◌++◌, length, take, get_or, refl, sym, ap, ap₂, ◌∙◌, subst, inl, inr, arith, append-nil, ℤ, pos, negsuc, ◌+ℤ◌, ◌*ℤ◌}
+use Rattle.std.specs.Prelude.{nat_abs, neg_ℤ, nat_eq, nat_lt, nat_le, flat_map}
 use Rattle.std.specs.Cmp.Lexicographic.{pointwise, nat_list_eq_equiv}
 use Rattle.std.proofs.lemmas.Bool.{and_parts, ltb-true}
 use Rattle.std.proofs.lemmas.Int.{ints}
 use Rattle.fraction_laws.specs.Fractions.{whole}
 use Rattle.sym_model.specs.Sum.{Among, total}
-use Rattle.sym_model.specs.LabelLimits.{are_letters, is_permutation_label}
-use Rattle.sym_model.specs.BetaList.{has_equal_entries}
-use Rattle.sym_model.specs.Partition.{after}
-use Rattle.sym_model.specs.PlaceOrders.{inversions, minus_one_to}
+use Rattle.sym_model.specs.LabelLimits.{is_permutation_label}
+use Rattle.sym_model.specs.PlaceOrders.{minus_one_to}
 use Rattle.sym_model.specs.Permutation.{IsOneLine, covers_among, covers_down, kept, times_swap, with_fixed}
-use Rattle.sym_model.specs.Polynomial.{Poly, Same, In, nothing, one, pair, plus, negate, restrict, same, scale, times, join}
+use Rattle.sym_model.specs.Polynomial.{Poly, In, nothing, one, pair, plus, negate, same, scale, times, join}
 use Rattle.sym_model.specs.WholeTerms.{HaveLabels, WholeTerms}
 use Rattle.sym_model.proofs.Exponents.{same_true}
 use Rattle.sym_model.proofs.PolynomialLaws.{one-times, pair_times_comm}

@@ -1,7 +1,7 @@
 -- Products of a polynomial and a Schubert polynomial, row by row of a diagram (`times_rows`, specs/DiagramRows of `double_schubert_laws`). A
 -- permutation of at most n letters is written without fixed letters at the end, which are equal to their places. Two polynomials are compared by the
 -- sums of c·φ(α) over their terms c·x^α (`pair`), for every function φ.
-use Rattle.std.specs.Prelude.{◌≡◌, ℕ, ◌+◌, ◌-◌, ℤ, pos, negsuc, ◌+ℤ◌, ◌*ℤ◌, List, [], ◌∷◌, ◌++◌, map, get_or, take}
+use Rattle.std.specs.Prelude.{◌≡◌, ℕ, ◌+◌, ◌-◌, ℤ, pos, negsuc, ◌+ℤ◌, ◌*ℤ◌, List, ◌++◌, map, get_or, take}
 use Rattle.sym_model.specs.Sum.{total}
 use Rattle.sym_model.specs.Partition.{after}
 use Rattle.sym_model.specs.Polynomial.{Poly, In, pair, times}

@@ -1,6 +1,5 @@
-use Rattle.std.proofs.Common.{◌≡◌, ℕ, suc, ◌+◌, ◌-◌, ◌<◌, ◌≤◌, length, sym, ap, arith}
+use Rattle.std.proofs.Common.{◌≡◌, ◌+◌, ◌-◌, sym, ap, arith}
 use Rattle.std.proofs.lemmas.Int.{ints}
-use Rattle.sym_model.specs.Polynomial.{pair}
 use Rattle.linear_combinations.specs.Gains.{over}
 use Rattle.monk_product.specs.RowProducts.{row_value}
 use Rattle.monk_product.proofs.RowSums.{first_terms, partial, row_first, row_last, row_step}

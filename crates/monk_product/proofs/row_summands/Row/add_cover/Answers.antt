@@ -1,4 +1,4 @@
-use Rattle.std.proofs.Common.{◌≡◌, ◌-◌, ◌≤◌, refl, sym, subst, inl, arith}
+use Rattle.std.proofs.Common.{◌-◌, refl, sym, subst, inl, arith}
 use Rattle.std.specs.Prelude.{OnOk}
 use Rattle.std.specs.Option.{option_to_list}
 use Rattle.sym_model.specs.Sum.{Among}

@@ -1,4 +1,4 @@
-use Rattle.std.proofs.Common.{◌≡◌, ◌+◌, ◌-◌, ◌<◌, ap, arith, subst}
+use Rattle.std.proofs.Common.{◌≡◌, ◌+◌, ◌-◌, arith, subst}
 use Rattle.sym_model.specs.Permutation.{times_swap}
 use Rattle.linear_combinations.specs.Gains.{each_with}
 use Rattle.monk_product.specs.RowProducts.{GainsExcept}

@@ -1,7 +1,5 @@
-use Rattle.std.proofs.Common.{◌≡◌, ◌+◌, ◌-◌, ◌<◌, ap, arith, subst}
-use Rattle.sym_model.specs.Permutation.{covers_down, times_swap}
-use Rattle.linear_combinations.specs.Gains.{each_with}
-use Rattle.monk_product.specs.RowProducts.{GainsExcept}
+use Rattle.std.proofs.Common.{◌+◌, ◌-◌, arith}
+use Rattle.sym_model.specs.Permutation.{times_swap}
 use Rattle.monk_product.proofs.RowSums.{cover_before_short, except_none, one_more_except}
 use Rattle.monk_product.proofs.row_summands.Row.add_covers_before.Goals as goal
 

@@ -1,17 +1,14 @@
-use Rattle.std.proofs.Common.{◌≡◌, ◌+◌, ◌-◌, ◌++◌, [], ◌∷◌, map, refl, sym, ap, ◌∙◌, subst, arith, ℤ, List, ℕ}
+use Rattle.std.proofs.Common.{◌≡◌, ◌+◌, ◌-◌, ◌++◌, [], ◌∷◌, map, refl, sym, ap, ◌∙◌, subst, ℤ, List, ℕ}
 use Rattle.std.specs.Prelude.{neg_ℤ}
 use Rattle.std.specs.Map.Iter.{deref_pair}
 use Rattle.std.proofs.lemmas.List.{map-append}
 use Rattle.fraction_laws.proofs.Whole.{whole_fitted}
-use Rattle.sym_model.specs.Permutation.{covers_down, with_fixed}
+use Rattle.sym_model.specs.Permutation.{covers_down}
 use Rattle.sym_model.specs.Sum.{Among}
-use Rattle.schubert_laws.specs.Chains.{letters_before}
-use Rattle.schubert_laws.specs.ShortPermutations.{IsShort}
-use Rattle.linear_combinations.specs.Gains.{each_with, replaced, scaled}
+use Rattle.linear_combinations.specs.Gains.{each_with}
 use Rattle.linear_combinations.proofs.Gains.{all_pairs, next_among, so_far_next}
-use Rattle.linear_combinations.proofs.Steps.{all_done}
 use Rattle.monk_product.specs.RowProducts.{GainsExcept, covers_to, signed_covers}
-use Rattle.monk_product.proofs.RowSums.{except_both, except_none, place_at, place_inside, signed_scaled, term_more}
+use Rattle.monk_product.proofs.RowSums.{except_both, except_none, place_at, signed_scaled, term_more}
 use Rattle.monk_product.proofs.row_summands.Row.covers.Goals as goal
 
 pub loop-w-init : goal.loop-w-init

@@ -1,4 +1,4 @@
-use Rattle.std.proofs.Common.{◌≡◌, ◌+◌, ◌<◌, ◌≤◌, length, get_or, sym, ap, ◌∙◌, arith}
+use Rattle.std.proofs.Common.{sym, ap, ◌∙◌, arith}
 use Rattle.sym_model.specs.Permutation.{with_fixed}
 use Rattle.schubert_laws.specs.Chains.{letters_before}
 use Rattle.schubert_laws.proofs.ChainSums.{place_below, place_is}
