@@ -1,2 +1,3 @@
 pub mod Monk
+pub mod RowProducts
 pub mod ShortPerms

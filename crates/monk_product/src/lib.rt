@@ -19,6 +19,7 @@
 mod chains;
 mod monk;
 mod product;
+mod row_summands;
 mod short_monk;
 mod short_perm;
 
