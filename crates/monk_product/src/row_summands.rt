@@ -184,7 +184,7 @@ impl Row {
 }
 
 /// (-1)^d·c for d = `degree`. Returns `Large` only if this is 2^127.
-fn with_sign(degree: usize, c: Int) -> Result<Int, SumFault>
+pub(crate) fn with_sign(degree: usize, c: Int) -> Result<Int, SumFault>
     ensures { IfOk result (λ signed. signed ≡ minus_one_to degree *ℤ c) }
 {
     if degree % 2 == 0 {
@@ -243,13 +243,14 @@ pub(crate) fn layers(
     p: &ShortPerm,
     n: usize,
     rows: &[usize],
+    weight: &mut usize,
 ) -> Result<Vec<Vec<ShortPerm>>, SumFault> {
     let mut layers = Vec::new(alloc);
     let mut layer = Vec::new(alloc);
     layer.push(p.copy()?)?;
     let mut left = MOST_PERMUTATIONS;
     for i in (0..rows.len()).rev() {
-        let lower = layer_below(alloc, layer.as_slice(), n, i, rows[i])?;
+        let lower = layer_below(alloc, layer.as_slice(), n, i, rows[i], weight)?;
         layers.push(layer)?;
         layer = lower;
         left = left.checked_sub(layer.len()).ok_or(SumFault::Large)?;
@@ -267,6 +268,7 @@ fn layer_below(
     n: usize,
     i: usize,
     cells: usize,
+    weight: &mut usize,
 ) -> Result<Vec<ShortPerm>, SumFault> {
     let mut found: ShortSum = Lin::new(alloc);
     for q in layer {
@@ -274,6 +276,7 @@ fn layer_below(
             found.add_at_label(q, Int::one())?;
         } else {
             for summand in row_summands(alloc, q, n, i, cells)? {
+                *weight = weight.saturating_add(subsets(cells, summand.degree));
                 found.add_owned(summand.perm, Int::one())?;
             }
         }
@@ -283,4 +286,14 @@ fn layer_below(
         perms.push(w)?;
     }
     Ok(perms)
+}
+
+/// The number of subsets of `degree` elements of a set of `cells` elements, if no product on the way
+/// is too large.
+fn subsets(cells: usize, degree: usize) -> usize {
+    let mut count: usize = 1;
+    for at in 0..degree.min(cells) {
+        count = count.saturating_mul(cells - at) / (at + 1);
+    }
+    count
 }
