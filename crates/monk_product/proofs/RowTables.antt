@@ -2,13 +2,13 @@
 --     times_over     a list times a polynomial, in place of a polynomial that has the same sums
 --     values_next    the sum over the summands of a row is the value of one row more
 --     signs_cancel   the value of all rows, times the sign of v, is the product of the two Schubert polynomials
-use Rattle.std.proofs.Common.{◌≡◌, ℕ, zero, suc, ◌+◌, ◌<◌, ◌≤◌, List, [], ◌∷◌, ◌++◌, length, get_or, take, refl, sym, ap, ap₂, ◌∙◌, subst, inl, inr, arith, ℤ, pos, ◌+ℤ◌, ◌*ℤ◌, neg_ℤ}
+use Rattle.std.proofs.Common.{◌≡◌, ℕ, zero, suc, ◌+◌, ◌<◌, ◌≤◌, List, [], ◌∷◌, ◌++◌, length, get_or, take, refl, sym, ap, ◌∙◌, subst, inl, inr, arith, ℤ, pos, ◌+ℤ◌, ◌*ℤ◌, neg_ℤ}
 use Rattle.std.proofs.lemmas.Int.{ints}
 use Rattle.std.proofs.lemmas.List.{take_all}
 use Rattle.sym_model.specs.Sum.{total, Among}
 use Rattle.sym_model.specs.PlaceOrders.{minus_one_to, sign, inversions}
-use Rattle.sym_model.specs.Polynomial.{Poly, In, join, pair, scale, times}
-use Rattle.sym_model.specs.Permutation.{with_fixed, first_ascent}
+use Rattle.sym_model.specs.Polynomial.{Poly, join, pair, times}
+use Rattle.sym_model.specs.Permutation.{with_fixed}
 use Rattle.sym_model.specs.Schubert.{schubert, schubert_in}
 use Rattle.sym_model.specs.WholeTerms.{WholeTerms}
 use Rattle.sym_model.proofs.Polynomials.{pair_determined, pair_ext, pair_factor, pair_scale, pair_times, pair_total, In_map, In_restrict}
@@ -16,11 +16,11 @@ use Rattle.sym_model.proofs.Ring.{ring}
 use Rattle.sym_model.proofs.Sums.{total_ext, Among_from_append}
 use Rattle.sym_model.proofs.PolynomialLaws.{times_comm}
 use Rattle.schubert_laws.specs.Chains.{elementary_in}
-use Rattle.double_schubert_laws.specs.DiagramRows.{AreWithin, times_rows}
+use Rattle.double_schubert_laws.specs.DiagramRows.{times_rows}
 use Rattle.double_schubert_laws.proofs.RowsFromOne.{rows_start}
 use Rattle.linear_combinations.specs.Gains.{over, Gains}
 use Rattle.monk_product.specs.RowPaths.{AreIn, AreValues, IsLongest, IsPathFor, signed_by}
-use Rattle.monk_product.specs.RowProducts.{IsValueAt, AreSummandsAt, row_value, sum_over}
+use Rattle.monk_product.specs.RowProducts.{IsValueAt, AreSummandsAt}
 use Rattle.monk_product.specs.declared.row_summands.Summand.{Summand}
 use Rattle.monk_product.specs.declared.row_table.Entry.{Entry}
 

@@ -1,6 +1,6 @@
 -- Diagrams and permutations at which `times_rows` (specs/DiagramRows of `double_schubert_laws`) is the product with a given Schubert polynomial, up to
 -- its sign. A permutation of at most n letters is written without fixed letters at the end, which are equal to their places.
-use Rattle.std.specs.Prelude.{◌≡◌, ℕ, ℤ, ◌*ℤ◌, ◌<◌, ◌≤◌, List, length, get_or, take, None}
+use Rattle.std.specs.Prelude.{◌≡◌, ℕ, ℤ, ◌*ℤ◌, ◌≤◌, List, length, get_or, take, None}
 use Rattle.sym_model.specs.PlaceOrders.{sign}
 use Rattle.sym_model.specs.Polynomial.{Poly, In, pair, scale, times}
 use Rattle.sym_model.specs.Permutation.{IsOneLine, AreInverse, with_fixed, first_ascent}

@@ -100,18 +100,17 @@ fn product_by_plan(alloc: Global, u: &Perm, v: &Perm) -> Result<ShortSum, SumFau
 
 /// The product of the Schubert polynomials of `u` and `v` by a plan for `v`. Returns `Large` also if
 /// the transition rule is likely to be faster.
-fn product_of_plan(
-    alloc: Global,
-    plan: &RowPlan,
-    u: &Perm,
-    v: &Perm,
-) -> Result<ShortSum, SumFault>
+fn product_of_plan(alloc: Global, plan: &RowPlan, u: &Perm, v: &Perm) -> Result<ShortSum, SumFault>
     requires { IsPathFor v.now plan.now.path.letters plan.now.path.rows.items plan.now.path.end }
     ensures value { IfOk result (λ sum. (k : ℕ) (φ : List ℕ → ℤ)
         → over (λ w. pair (schubert_in w k) φ) sum
         ≡ pair (times (schubert_in u.now k) (schubert_in v.now k)) φ) }
 {
-    let w = if u.inversions() < v.inversions() { u } else { v };
+    let w = if u.inversions() < v.inversions() {
+        u
+    } else {
+        v
+    };
     if !takes_longer(alloc, w, plan.weight)? {
         return Err(SumFault::Large);
     }

@@ -1,5 +1,5 @@
-use Rattle.std.proofs.Common.{◌≡◌, [], ◌∷◌, ◌++◌, sym, subst, ap, ap₂, ◌∙◌, pos, ◌*ℤ◌}
-use Rattle.sym_model.specs.PlaceOrders.{minus_one_to, inversions}
+use Rattle.std.proofs.Common.{[], ◌∷◌, ◌++◌, sym, subst, ap, ap₂, ◌∙◌, ◌*ℤ◌}
+use Rattle.sym_model.specs.PlaceOrders.{minus_one_to}
 use Rattle.linear_combinations.specs.Gains.{Gains}
 use Rattle.monk_product.specs.RowPaths.{AreValues, signed_by}
 use Rattle.monk_product.specs.declared.row_table.Entry.{Entry}

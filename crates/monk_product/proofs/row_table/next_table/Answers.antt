@@ -1,4 +1,4 @@
-use Rattle.std.proofs.Common.{◌≡◌, ◌+◌, List, [], take, sym, subst, ◌∙◌}
+use Rattle.std.proofs.Common.{◌+◌, take, sym, subst}
 use Rattle.monk_product.specs.RowPaths.{AreValues}
 use Rattle.monk_product.specs.RowProducts.{IsValueAt}
 use Rattle.monk_product.proofs.RowTables.{values_none, values_push}

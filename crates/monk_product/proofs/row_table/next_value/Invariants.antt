@@ -1,5 +1,5 @@
 -- The list is the sum over the summands visited so far.
-use Rattle.std.proofs.Common.{ℕ, List, take, get_or, ◌≡◌}
+use Rattle.std.proofs.Common.{ℕ, List, take}
 use Rattle.sym_model.specs.Polynomial.{Poly}
 use Rattle.sym_model.specs.Permutation.{with_fixed}
 use Rattle.double_schubert_laws.specs.DiagramRows.{times_rows}
