@@ -1,5 +1,11 @@
 pub mod OneCover
 pub mod MonkSteps
 pub mod MonkGains
+pub mod RowSums
+pub mod RowPaths
+pub mod RowTables
 pub mod ShortPerms
 pub mod ShortCovers
+pub mod ChainLists
+pub mod ChainSteps
+pub mod ElementaryProducts

@@ -9,7 +9,6 @@ use Rattle.sym_model.specs.DividedDifference.{variable_in}
 use Rattle.sym_model.specs.LabelLimits.{is_permutation_label}
 use Rattle.sym_model.specs.Permutation.{IsOneLine, covers_up, covers_down}
 use Rattle.sym_model.specs.Polynomial.{join, one, pair, same, times}
-use Rattle.sym_model.specs.Schubert as polynomials
 use Rattle.sym_model.specs.Schubert.{schubert_in}
 use Rattle.sym_model.specs.Sum.{Among}
 use Rattle.sym_model.specs.WholeTerms.{combined, WholeTerms}

@@ -20,13 +20,13 @@ pub items : {X : Type 0} (o : Option X) (s : List X) → MatchOption o (s ≡ []
 items None s h = h
 items (Some x) s h = h
 
-next : (w : List ℕ) (f : ℕ → List ℕ) (start n q : ℕ) → start + n + 1 ≡ q
+pub next : (w : List ℕ) (f : ℕ → List ℕ) (start n q : ℕ) → start + n + 1 ≡ q
     → found w f start (n + 1) ≡ found w f start n ++ covers_among w (f q ∷ [])
 next w f start n q e =
     one_more_place w f start n (inversions (f (start + n + 1)) == inversions w + 1) refl
     ∙ ap (λ m. found w f start n ++ covers_among w (f m ∷ [])) e
 
-rest : (w : List ℕ) (f : ℕ → List ℕ) (start n k : ℕ)
+pub rest : (w : List ℕ) (f : ℕ → List ℕ) (start n k : ℕ)
     → found w f start (n + k) ≡ found w f start n ++ found w f (start + n) k
 rest w f start n k =
     ap (λ l. covers_among w (map f l)) (after-append start n k)

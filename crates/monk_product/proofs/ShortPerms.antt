@@ -1,15 +1,19 @@
 -- A short permutation is stored as 32 letters: its own letters, followed by *fixed* letters, which are equal to their places. Lemmas on these 32
 -- letters, and on the letters without the fixed ones at the end (`kept`).
-use Rattle.std.proofs.Common.{◌≡◌, ℕ, zero, suc, ◌+◌, ◌-◌, ◌<◌, ◌≤◌, ◌==◌, Bool, cond, List, [], ◌∷◌, ◌++◌, length, take, drop, sym, ap, ap₂, ◌∙◌, subst, arith, length-append}
+use Rattle.std.proofs.Common.{◌≡◌, ℕ, zero, suc, ◌+◌, ◌-◌, ◌<◌, ◌≤◌, ◌==◌, Bool, cond, List, [], ◌∷◌, ◌++◌, length, take, drop, get_or, inl, inr, sym, ap, ap₂, ◌∙◌, subst, arith, length-append}
 use Rattle.std.specs.Prelude.{nat_eq}
 use Rattle.std.specs.List.{swap}
 use Rattle.std.specs.Cmp.Lexicographic.{pointwise}
+use Rattle.std.proofs.lemmas.Bool.{cases_lt}
+use Rattle.std.proofs.lemmas.List.{get_or_default}
 use Rattle.std.proofs.lemmas.Slice.Eq.{bytes_eq-Decides}
 use Rattle.std.proofs.Math.Seq.{take-append_seam}
 use Rattle.sym_model.specs.Partition.{after}
 use Rattle.sym_model.specs.PlaceOrders.{inversions}
-use Rattle.sym_model.specs.Permutation.{kept, with_fixed, times_swap, covers_among}
+use Rattle.sym_model.specs.Permutation.{IsOneLine, kept, with_fixed, times_swap, covers_among}
 use Rattle.sym_model.proofs.AfterLists.{length_after}
+use Rattle.schubert_laws.specs.Chains.{letters_before}
+use Rattle.schubert_laws.proofs.ChainSums.{place_below, letter_there}
 use Rattle.schubert_laws.proofs.FixedTails.{inversions_kept}
 use Rattle.schubert_laws.proofs.LowerPermutations.{kept_whole}
 use Rattle.schubert_laws.proofs.TransitionFromOne.{times_swap_kept}
@@ -33,6 +37,19 @@ filled u l =
     ∙ ap (λ k. length (kept u) + k) (length_after (length (kept u)) t.0) in
     let e : 32 - length (kept u) ≡ t.0 = omega arith in
     ap (λ k. kept u ++ after (length (kept u)) k) e ∙ sym t.1
+
+pub as_stored : (u w : List ℕ) → kept u ≡ w → length u ≡ 32 → u ≡ with_fixed 32 w
+as_stored u w e l = sym (ap (with_fixed 32) (sym e) ∙ filled u l)
+
+-- the place of the letter a is after the place p, counted from 0, if it is not before p and p has another letter
+pub not_yet : (a p : ℕ) (u : List ℕ) → IsOneLine u → 1 ≤ a → a ≤ length u → p ≤ letters_before a u → (get_or u p 0 ≡ a → ⊥) → p + 1 ≤ letters_before a u
+not_yet a p u o h l b n = elim (cases_lt p (letters_before a u)) [
+  | inl f ↦ omega arith
+  | inr f ↦
+      let e : p ≡ letters_before a u = omega arith in
+      let q = place_below a u o h l in
+      absurd (n (get_or_default u p 0 (suc p) (omega arith) ∙ ap (λ i. get_or u i (suc i)) e ∙ letter_there a u o h l))
+]
 
 pub few_kept : (u : List ℕ) → length u ≡ 32 → length (kept u) ≤ 32
 few_kept u l =
@@ -93,17 +110,24 @@ swapped u v n a b f e m h l i =
       count_is = ap (λ x. x + 1) c ∙ sym i ∙ ap inversions (sym e);
     }
 
+pub exchanged_kept : (u w : List ℕ) (a b : ℕ) → kept u ≡ w → a < b → b < length u → times_swap (a + 1) (b + 1) w ≡ kept (swap u a b)
+exchanged_kept u w a b e h l =
+    ap (times_swap (a + 1) (b + 1)) (sym e) ∙ times_swap_kept u (a + 1) (b + 1) (omega arith) (omega arith) ∙ swap_in u a b h l
+
+-- an exchange is a cover of w if and only if it is one of the 32 letters of w
+pub exchange_test : (u w : List ℕ) (n a b : ℕ) → kept u ≡ w → IsFilled u n → a < b → b < 32
+    → (inversions (times_swap (a + 1) (b + 1) w) == inversions w + 1) ≡ (inversions (swap u a b) == inversions u + 1)
+exchange_test u w n a b e f h l =
+    let k = f.long in
+    let s = short_of u n f in
+    ap₂ (λ c d. c == d + 1)
+    (ap inversions (exchanged_kept u w a b e h (omega arith))
+    ∙ inversions_kept (swap u a b) (short_swap u a b (omega arith) (omega arith) s).one_line)
+    (ap inversions (sym e) ∙ inversions_kept u s.one_line)
+
 pub cover_is : (u w : List ℕ) (n a b : ℕ) (t : Bool) → kept u ≡ w → IsFilled u n → a < b → b < 32
     → (inversions (swap u a b) == inversions u + 1) ≡ t
     → covers_among w (times_swap (a + 1) (b + 1) w ∷ []) ≡ cond t (kept (swap u a b) ∷ []) []
 cover_is u w n a b t e f h l q =
     let k = f.long in
-    let s = short_of u n f in
-    let x : times_swap (a + 1) (b + 1) w ≡ kept (swap u a b) =
-    ap (times_swap (a + 1) (b + 1)) (sym e) ∙ times_swap_kept u (a + 1) (b + 1) (omega arith) (omega arith)
-    ∙ swap_in u a b h (omega arith) in
-    let i : inversions w ≡ inversions u = ap inversions (sym e) ∙ inversions_kept u s.one_line in
-    let m : inversions (kept (swap u a b)) ≡ inversions (swap u a b) =
-    inversions_kept (swap u a b) (short_swap u a b (omega arith) (omega arith) s).one_line in
-    ap₂ (λ y k. cond (inversions y == k + 1) (y ∷ []) []) x i
-    ∙ ap (λ c. cond c (kept (swap u a b) ∷ []) []) (ap (λ k. k == inversions u + 1) m ∙ q)
+    ap₂ (λ c y. cond c (y ∷ []) []) (exchange_test u w n a b e f h l ∙ q) (exchanged_kept u w a b e h (omega arith))

@@ -1,2 +1,4 @@
 pub mod Monk
+pub mod RowPaths
+pub mod RowProducts
 pub mod ShortPerms

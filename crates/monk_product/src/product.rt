@@ -13,6 +13,7 @@ ghost use Rattle.sym_model.specs.Products.{IsSchubertProductOf};
 ghost use Rattle.sym_model.specs.PastLimit.{pair_weight};
 
 use crate::monk::TimesVar;
+use crate::row_product::product_if_fast;
 use crate::short_monk::written_out;
 use crate::short_perm::{MOST_LETTERS, ShortPerm};
 use calc_base::SumFault;
@@ -35,6 +36,9 @@ pub fn schubmult(alloc: Global, u: &Perm, v: &Perm) -> Result<Terms<Perm, Int>, 
         IsSchubertProductOf u.now v.now (as_fractions terms)) }
     ensures large { IsErrOf result SumFault.Large → 2 ^ 127 ≤ pair_weight u.now v.now }
 {
+    if let Ok(terms) = product_if_fast(alloc, u, v) {
+        return Ok(terms);
+    }
     if u.inversions() <= v.inversions() {
         act(alloc, u, v)
     } else {

@@ -15,7 +15,7 @@ use std::alloc::Global;
 use transition_walk::Factor;
 
 /// A list of Schubert polynomials of short permutations with integer coefficients.
-type ShortSum = Lin<ShortPerm, Int>;
+pub(crate) type ShortSum = Lin<ShortPerm, Int>;
 
 /// For each cover of w that exchanges the letters at `place`, counted from 0, and at a greater
 /// place, adds `c` to its coefficient in `sum`. Returns `Large` only if, for some permutation, the

@@ -1,13 +1,16 @@
 //! Permutations of at most 32 letters, which are copied, compared and hashed as a whole.
 ghost use Rattle.std.specs.Prelude.{◌≡◌, ◌+◌, ◌<◌, ◌≤◌, [], ◌∷◌, length, nat_eq, nat_lt, ◌&&◌};
-ghost use Rattle.std.specs.Prelude.{IfOk};
+ghost use Rattle.std.specs.Prelude.{IfOk, ◌-◌, take, drop, slice_index};
 ghost use Rattle.std.specs.Cmp.{partial_equiv_from_equiv};
 ghost use Rattle.std.specs.Cmp.Lexicographic.{pointwise, nat_list_eq_equiv};
 ghost use Rattle.std.specs.Option.{option_to_list};
 ghost use Rattle.std.proofs.Common.{ap};
 ghost use Rattle.std.proofs.lemmas.Slice.Eq.{bytes_eq-Decides};
 ghost use Rattle.sym_model.specs.Permutation.{covers_among, kept, times_swap, with_fixed};
-ghost use Rattle.monk_product.specs.ShortPerms.{IsFilled};
+ghost use Rattle.sym_model.specs.PlaceOrders.{inversions};
+ghost use Rattle.schubert_laws.specs.Chains.{letters_before};
+ghost use Rattle.double_schubert_laws.specs.KeptChains as chains;
+ghost use Rattle.monk_product.specs.ShortPerms.{IsFilled, IsGreatestBelow};
 
 use calc_base::NoMemory;
 use linear_combinations::Label;
@@ -105,6 +108,71 @@ impl ShortPerm {
             })
         } else {
             None
+        }
+    }
+
+    /// The letter at a place, counted from 0, fixed letters included.
+    pub fn letter(&self, place: usize) -> u8
+        requires { place < 32 }
+        ensures { result ≡ slice_index (with_fixed 32 self.now) place }
+    {
+        self.letters[place]
+    }
+
+    /// The place of a letter, counted from 0, fixed letters included.
+    pub fn place(&self, letter: u8) -> usize
+        requires some { 1 ≤ letter }
+        requires few { letter ≤ 32 }
+        ensures place { result ≡ letters_before letter (with_fixed 32 self.now) }
+        ensures inside { result < 32 }
+    {
+        let mut place = 0;
+        while self.letters[place] != letter {
+            place += 1;
+        }
+        place
+    }
+
+    /// The number of letters less than `letter` at the first `k` places, fixed letters included.
+    pub fn less_among(&self, k: usize, letter: u8) -> usize
+        requires { k ≤ 32 }
+        ensures { result ≡ chains.less_among k letter (with_fixed 32 self.now) }
+    {
+        self.letters[..k].iter().filter(|x| **x < letter).count()
+    }
+
+    /// The greatest letter less than `letter` at the places from `first` on, before `end`, counted
+    /// from 0, fixed letters included; 0 if there is none.
+    pub fn greatest_below(&self, letter: u8, first: usize, end: usize) -> u8
+        requires order { first ≤ end }
+        requires inside { end ≤ 32 }
+        ensures { IsGreatestBelow letter (take (end - first) (drop first (with_fixed 32 self.now)))
+            result }
+    {
+        let mut low = 0;
+        for x in &self.letters[first..end] {
+            if low < *x && *x < letter {
+                low = *x;
+            }
+        }
+        low
+    }
+
+    /// This permutation with the letters at the places `first` and `second`, counted from 0,
+    /// exchanged. The exchange must add exactly one inversion. `first` must be less than `second`,
+    /// and `second` less than 32.
+    pub fn raised(&self, first: usize, second: usize) -> ShortPerm
+        requires order { first < second }
+        requires inside { second < 32 }
+        requires one { inversions (times_swap (first + 1) (second + 1) self.now)
+            ≡ inversions self.now + 1 }
+        ensures { result ≡ times_swap (first + 1) (second + 1) self.now }
+    {
+        let mut letters = self.letters;
+        letters.swap(first, second);
+        ShortPerm {
+            letters,
+            inversions: self.inversions + 1,
         }
     }
 

@@ -1,0 +1,13 @@
+-- So far, c has been added to the coefficients of the covers of w that exchange the letter at `place` with a letter at a place before `other`, not of
+-- all (`GainsExcept`). Places are counted from 0.
+use Rattle.std.proofs.Common.{◌+◌, ◌-◌}
+use Rattle.sym_model.specs.Permutation.{times_swap}
+use Rattle.linear_combinations.specs.Gains.{each_with}
+use Rattle.monk_product.specs.RowProducts.{GainsExcept}
+use Rattle.monk_product.proofs.ShortCovers.{found}
+use Rattle.monk_product.proofs.row_summands.Row.add_covers_before.Given as goal
+
+abbrev pub invariant-loop-other : goal.invariant-loop-other
+invariant-loop-other l =
+    GainsExcept l.self.letters (l.self.letter - 1) l.fn.sum
+    (each_with l.c (found l.w (λ i. times_swap i (l.place + 1) l.w) 0 l.other)) l.sum
