@@ -64,7 +64,8 @@ no_sum k value c φ = refl
 
 pub sum_more : (k : ℕ) (value : List ℕ → Poly) (c : ℕ) (done : List Summand) (x : Summand) (all : List Summand) (old new : WholeTerms) → done ++ x ∷ [] ≡ all
     → IsSumOver k value c done old
-    → ((φ : List ℕ → ℤ) → over (λ w. pair (schubert_in w k) φ) new ≡ over (λ w. pair (schubert_in w k) φ) old +ℤ x.coefficient *ℤ pair (times (elementary_in x.degree c k) (value x.perm)) φ)
+    → ((φ : List ℕ → ℤ) → over (λ w. pair (schubert_in w k) φ) new
+    ≡ over (λ w. pair (schubert_in w k) φ) old +ℤ x.coefficient *ℤ pair (times (elementary_in x.degree c k) (value x.perm)) φ)
     → IsSumOver k value c all new
 sum_more k value c done x all old new e h g φ =
     let f = λ (y : Summand). y.coefficient *ℤ pair (times (elementary_in y.degree c k) (value y.perm)) φ in
@@ -76,7 +77,8 @@ pub values_next : (s : ℕ → Poly) (n i c : ℕ) (rows q : List ℕ) (summands
 values_next s n i c rows q summands sum j e a h = record {
   value = λ k φ.
       h k φ
-      ∙ ap (λ r. total (λ (x : Summand). x.coefficient *ℤ pair (times (elementary_in x.degree r k) (times_rows k (s k) (take i rows) (with_fixed n x.perm))) φ) summands) (sym e)
+      ∙ ap (λ r. total (λ (x : Summand). x.coefficient
+      *ℤ pair (times (elementary_in x.degree r k) (times_rows k (s k) (take i rows) (with_fixed n x.perm))) φ) summands) (sym e)
       ∙ sym (a.value k (s k) φ (j k));
 }
 
@@ -119,7 +121,8 @@ pub first_value : (v u q : List ℕ) (n : ℕ) (z : ℤ) (sum : WholeTerms) → 
 first_value v u q n z sum l e g = record {
   value = λ k φ.
       let a = g.sums (λ w. pair (schubert_in w k) φ) in
-      let b = pair_determined (times_rows k (signed_by v u k) [] (with_fixed n q)) (signed_by v u k) φ (rows_start k (signed_by v u k) (with_fixed n q) (signed_in v u k) l.falls) in
+      let b = pair_determined (times_rows k (signed_by v u k) [] (with_fixed n q)) (signed_by v u k) φ
+      (rows_start k (signed_by v u k) (with_fixed n q) (signed_in v u k) l.falls) in
       let c = pair_scale (sign v) (schubert_in u k) φ in
       let d : z *ℤ pair (schubert_in u k) φ ≡ sign v *ℤ pair (schubert_in u k) φ = ap (λ x. x *ℤ pair (schubert_in u k) φ) (e ∙ omega (arith, ints)) in
       omega (arith, ints);
@@ -139,11 +142,15 @@ signs_cancel v u rows q n sum p a k φ =
     a.value k φ
     ∙ p.value k (signed_by v u k) φ
     ∙ ap (λ x. sign v *ℤ x)
-    (pair_times (signed_by v u k) (schubert_in v k) φ ∙ pair_scale (sign v) (schubert_in u k) f ∙ ap (λ x. sign v *ℤ x) (sym (pair_times (schubert_in u k) (schubert_in v k) φ)))
+    (pair_times (signed_by v u k) (schubert_in v k) φ ∙ pair_scale (sign v) (schubert_in u k) f
+    ∙ ap (λ x. sign v *ℤ x) (sym (pair_times (schubert_in u k) (schubert_in v k) φ)))
     ∙ sign_squared (inversions v) (pair (times (schubert_in u k) (schubert_in v k)) φ)
 
 -- the two factors exchanged
-pub factors_swapped : (u v : List ℕ) (sum : WholeTerms) → ((k : ℕ) (φ : List ℕ → ℤ) → over (λ w. pair (schubert_in w k) φ) sum ≡ pair (times (schubert_in v k) (schubert_in u k)) φ)
+pub factors_swapped : (u v : List ℕ) (sum : WholeTerms)
+    → ((k : ℕ) (φ : List ℕ → ℤ) → over (λ w. pair (schubert_in w k) φ) sum ≡ pair (times (schubert_in v k) (schubert_in u k)) φ)
     → (k : ℕ) (φ : List ℕ → ℤ) → over (λ w. pair (schubert_in w k) φ) sum ≡ pair (times (schubert_in u k) (schubert_in v k)) φ
 factors_swapped u v sum h k φ =
-    h k φ ∙ pair_determined (times (schubert_in v k) (schubert_in u k)) (times (schubert_in u k) (schubert_in v k)) φ (times_comm (schubert_in v k) (schubert_in u k))
+    h k φ
+    ∙ pair_determined (times (schubert_in v k) (schubert_in u k)) (times (schubert_in u k) (schubert_in v k)) φ
+    (times_comm (schubert_in v k) (schubert_in u k))

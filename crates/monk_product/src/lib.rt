@@ -14,18 +14,18 @@
 //! `schubmult` computes the product in one of two ways, and the answer is the same. One is the
 //! transition rule on the permutation with fewer inversions. The other is the way of Samuel's
 //! program `schubmult` (the law `diagram_rows_law` of the crate `double_schubert_laws`): for one of
-//! the two permutations, v, it finds the code of a permutation from which exchanges at descents lead
-//! to the inverse of v, and multiplies by elementary polynomials e_d(x_1, .., x_r) for its rows of r
-//! cells, one row after another (`row_path`, `row_summands`, `row_table`). These products are
-//! Sottile's Pieri formula: chains of covers, with coefficients 1 (`chains`). The way is chosen by
-//! an estimate (`row_product`). If a coefficient on the way by rows is too large, or if a permutation
-//! has more than 32 letters, the transition rule is used, so the condition for `Large` is that of the
-//! transition rule.
+//! the two permutations, v, it finds the code of a permutation from which exchanges at descents
+//! lead to the inverse of v, and multiplies by elementary polynomials e_d(x_1, .., x_r) for its
+//! rows of r cells, one row after another (`row_path`, `row_summands`, `row_table`). These products
+//! are Sottile's Pieri formula: chains of covers, with coefficients 1 (`chains`). The way is chosen
+//! by an estimate (`row_product`). If a coefficient on the way by rows is too large, or if a
+//! permutation has more than 32 letters, the transition rule is used, so the condition for `Large`
+//! is that of the transition rule.
 //!
 //! If the greater number of letters and the smaller number of inversions of the two permutations
-//! add up to at most 32, the transition rule uses permutations that allocate no memory (`ShortPerm`). They
-//! have the same covers as permutations of the type `Perm`, and the bound for `Large` is the same
-//! for both types.
+//! add up to at most 32, the transition rule uses permutations that allocate no memory
+//! (`ShortPerm`). They have the same covers as permutations of the type `Perm`, and the bound for
+//! `Large` is the same for both types.
 #![tactic(auto)]
 
 mod chains;
