@@ -72,7 +72,8 @@ last_empty (x ∷ xs) ys e = let l = ap length e in absurd (omega arith)
 module _ (left k n : ℕ) (w : List ℕ) where
   early : (a : ℕ) → letters_before a (with_fixed n w) < k → ends left k n w a ≡ []
   early a h =
-      ap (λ t. flat_map (λ v. kept_chains (a - 1) left k n v) (cond t [] (covers_among w (map (λ b. times_swap b (letters_before a (with_fixed n w) + 1) w) (places k)))))
+      ap (λ t. flat_map (λ v. kept_chains (a - 1) left k n v)
+      (cond t [] (covers_among w (map (λ b. times_swap b (letters_before a (with_fixed n w) + 1) w) (places k)))))
       (lt-ltb (letters_before a (with_fixed n w)) k h)
 
   pub cut : (a : ℕ) → IsShort n w → 1 ≤ a → a ≤ n → less_among k a (with_fixed n w) < suc left → ends left k n w a ≡ []
@@ -80,7 +81,8 @@ module _ (left k n : ℕ) (w : List ℕ) where
   cut (suc m) s c h f =
       let e : suc m - 1 ≡ m = omega arith in
       ap (λ i. flat_map (λ v. kept_chains i left k n v) (kept_lifted k (suc m) n w)) e
-      ∙ last_empty (kept_chains m (suc left) k n w) (flat_map (λ v. kept_chains m left k n v) (kept_lifted k (suc m) n w)) (none_kept (suc m) (suc left) k n w s h f)
+      ∙ last_empty (kept_chains m (suc left) k n w) (flat_map (λ v. kept_chains m left k n v) (kept_lifted k (suc m) n w))
+      (none_kept (suc m) (suc left) k n w s h f)
 
   module _ (φ : List ℕ → ℤ) where
     by_letters : (m : ℕ) → total φ (kept_chains m (suc left) k n w) ≡ total (λ a. total φ (ends left k n w a)) (after 0 m)
@@ -95,7 +97,8 @@ module _ (left k n : ℕ) (w : List ℕ) where
         let o = ap₂ (λ i a. total φ (flat_map (λ v. kept_chains i left k n v) (kept_lifted k a n w))) p q in
         omega (arith, ints)
 
-    pub by_places : IsShort n w → (m : ℕ) → m ≤ n → total φ (kept_chains m (suc left) k n w) ≡ total φ (flat_map (ends_to m left k n w) (drop k (with_fixed n w)))
+    pub by_places : IsShort n w → (m : ℕ) → m ≤ n
+        → total φ (kept_chains m (suc left) k n w) ≡ total φ (flat_map (ends_to m left k n w) (drop k (with_fixed n w)))
     by_places s m h =
         let o = fixed_one_line n w s in
         let e : 0 + m ≡ m = omega arith in
@@ -112,7 +115,8 @@ module _ (left k n : ℕ) (w : List ℕ) where
         ap (λ l. cond (nat_le a m) (total φ l) (pos 0)) (early a (before_in a k (with_fixed n w) i)) ∙ zero_if (nat_le a m)))
         ∙ +ℤ_idl (total (λ a. cond (nat_le a m) (total φ (ends left k n w a)) (pos 0)) (drop k (with_fixed n w)))
         ∙ sym (total_each φ (ends_to m left k n w) (drop k (with_fixed n w))
-        ∙ total_ext (λ a. total φ (ends_to m left k n w a)) (λ a. cond (nat_le a m) (total φ (ends left k n w a)) (pos 0)) (λ a. total_cond_list (nat_le a m) φ (ends left k n w a)) (drop k (with_fixed n w)))
+        ∙ total_ext (λ a. total φ (ends_to m left k n w a)) (λ a. cond (nat_le a m) (total φ (ends left k n w a)) (pos 0))
+        (λ a. total_cond_list (nat_le a m) φ (ends left k n w a)) (drop k (with_fixed n w)))
 
 -- the letters of u at the places from k on, before the place p, counted from 0, with one more
 pub next_letter : (k p : ℕ) (u : List ℕ) → k ≤ p → p < length u → take (p + 1 - k) (drop k u) ≡ take (p - k) (drop k u) ++ get_or u p 0 ∷ []
@@ -151,7 +155,8 @@ pub walk_all : (left k n p a : ℕ) (w : List ℕ) → letters_before a (with_fi
     → flat_map (ends_at a left k n w p) (places k) ≡ ends left k n w a
 walk_all left k n p a w e h =
     each_cover (λ v. kept_chains (a - 1) left k n v) w (λ i. times_swap i (p + 1) w) (places k)
-    ∙ sym (ap (λ t. flat_map (λ v. kept_chains (a - 1) left k n v) (cond t [] (covers_among w (map (λ b. times_swap b (letters_before a (with_fixed n w) + 1) w) (places k)))))
+    ∙ sym (ap (λ t. flat_map (λ v. kept_chains (a - 1) left k n v)
+    (cond t [] (covers_among w (map (λ b. times_swap b (letters_before a (with_fixed n w) + 1) w) (places k)))))
     (le-ltb (letters_before a (with_fixed n w)) k (omega arith))
     ∙ ap (λ q. flat_map (λ v. kept_chains (a - 1) left k n v) (covers_among w (map (λ b. times_swap b (q + 1) w) (places k)))) e)
 

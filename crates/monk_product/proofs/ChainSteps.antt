@@ -1,7 +1,7 @@
 -- Steps of the loops that add the last permutations of chains to a list.
 --     adds_place, skips_place    one more place of the greater letter of the first cover
 --     adds_cover, skips_cover    one more cover at a place
---     rises, stays               whether an exchange is a cover, by the greatest smaller letter between the two places
+--     rises, stays           whether an exchange gives a cover, by the greatest smaller letter between the two places
 --     at_end_raised, at_end_kept     one more letter at the end of a list of which the greatest letter less than a given one is known
 use Rattle.std.proofs.Common.{◌≡◌, ◌⊎◌, ℕ, suc, ◌+◌, ◌-◌, ◌<◌, ◌≤◌, ◌==◌, ◌&&◌, ◌||◌, Bool, true, false, not, cond, nat_lt, List, [], ◌∷◌, ◌++◌, length, take, drop, map, flat_map, get_or, refl, sym, ap, ap₂, ◌∙◌, subst, inl, inr, arith, ℤ, ◌*ℤ◌, nat_le, append-nil}
 use Rattle.std.specs.List.{swap}
@@ -276,7 +276,8 @@ module _ (n at p k left letter other low : ℕ) (w : List ℕ) (s : IsShort n w)
         (ap (λ t. flat_map (λ x. kept_chains (letter - 1) left k n x) (cond t (times_swap (at - 1 + 1) (p + 1) w ∷ []) []))
         (stays n (at - 1) p low w s few (omega arith) inside between (same f)))
       where
-        same : (other < low) ⊎ (letter ≤ other) → (get_or (with_fixed 32 w) (at - 1) 0 < low) ⊎ (get_or (with_fixed 32 w) p 0 ≤ get_or (with_fixed 32 w) (at - 1) 0)
+        same : (other < low) ⊎ (letter ≤ other)
+            → (get_or (with_fixed 32 w) (at - 1) 0 < low) ⊎ (get_or (with_fixed 32 w) p 0 ≤ get_or (with_fixed 32 w) (at - 1) 0)
         same (inl x) = inl (omega arith)
         same (inr x) = inr (omega arith)
 
@@ -296,4 +297,5 @@ all_covers c n k p at left letter w old new s few none later inside is g =
     (ap (flat_map (ends_at letter left k n w p)) (ap₂ after e f)
     ∙ ap (λ l. flat_map (ends_at l left k n w p) (places k)) (is ∙ letter_short n p w s few inside)
     ∙ walk_all left k n p (get_or (with_fixed n w) p 0) w
-    (place_is (get_or (with_fixed n w) p 0) p (with_fixed n w) o (omega arith) (omega arith) (get_or_default (with_fixed n w) p (suc p) 0 (omega arith))) later) g
+    (place_is (get_or (with_fixed n w) p 0) p (with_fixed n w) o (omega arith) (omega arith)
+    (get_or_default (with_fixed n w) p (suc p) 0 (omega arith))) later) g

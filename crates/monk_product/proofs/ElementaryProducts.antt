@@ -46,7 +46,8 @@ exchanged_letters k w = max (length w) k + 1
 abbrev pub elementary_terms : ℕ → ℕ → ℤ → List ℕ → WholeTermsOf (List ℕ)
 elementary_terms d k z w = each_with z (kept_chains (exchanged_letters k w) d k (exchanged_letters k w) w)
 
-pub label_there : (list : WholeTerms) → IsCombination (pointwise nat_eq) is_permutation_label whole list → (t : List ℕ × ℤ) → Among t list → is_permutation_label t.0 ≡ true
+pub label_there : (list : WholeTerms) → IsCombination (pointwise nat_eq) is_permutation_label whole list
+    → (t : List ℕ × ℤ) → Among t list → is_permutation_label t.0 ≡ true
 label_there list is t m = (and_parts _ (is_permutation_label t.0) (term-among is_permutation_label whole list is.proper t m)).1
 
 pub label_few : (w : List ℕ) → is_permutation_label w ≡ true → length w ≤ 255
@@ -61,11 +62,13 @@ module _ (d k : ℕ) (z : ℤ) (m : ℕ) (φ : List ℕ → ℤ) where
   one_product w h =
       each_over z (λ v. pair (schubert_in v m) φ) (kept_chains (exchanged_letters k w) d k (exchanged_letters k w) w)
       ∙ ap (λ x. z *ℤ x)
-      (sym (pair_determined (times (elementary_in d k m) (schubert_in w m)) (schuberts_in (kept_chains (exchanged_letters k w) d k (exchanged_letters k w) w) m) φ
+      (sym (pair_determined (times (elementary_in d k m) (schubert_in w m))
+      (schuberts_in (kept_chains (exchanged_letters k w) d k (exchanged_letters k w) w) m) φ
       (pieri_kept d k m (exchanged_letters k w) w (label_short (exchanged_letters k w) w h (omega arith)) (omega arith))
       ∙ pair_each (λ v. schubert_in v m) (kept_chains (exchanged_letters k w) d k (exchanged_letters k w) w) φ))
 
-  pub elementary_product : (list old new : WholeTerms) → IsCombination (pointwise nat_eq) is_permutation_label whole list → Gains old (replaced (elementary_terms d k z) list) new
+  pub elementary_product : (list old new : WholeTerms) → IsCombination (pointwise nat_eq) is_permutation_label whole list
+      → Gains old (replaced (elementary_terms d k z) list) new
       → over (λ w. pair (schubert_in w m) φ) new
       ≡ over (λ w. pair (schubert_in w m) φ) old +ℤ z *ℤ over (λ w. pair (times (elementary_in d k m) (schubert_in w m)) φ) list
   elementary_product list old new is gains =
