@@ -18,8 +18,9 @@ loop-other-init c =
 
 pub add_cover-requires-clause-short : goal.add_cover-requires-clause-short
 add_cover-requires-clause-short c v m =
+    let test = c.loop-other-test.true in
     cover_after_short c.args.self.now.letters c.args.place c.loop-other.other c.args.w.now v _
-    c.requires.short (let order = c.loop-other.auto.other in omega arith) c.loop-other-test.true
+    c.requires.short (let order = c.loop-other.auto.other in omega arith) (omega arith)
     c.cover.ensures m
 
 pub add_cover-requires-clause-was : goal.add_cover-requires-clause-was
