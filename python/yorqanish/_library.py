@@ -4,6 +4,7 @@ from __future__ import annotations
 import _thread
 import ctypes
 import sys
+from contextlib import suppress
 from functools import lru_cache
 from queue import Empty, SimpleQueue
 from typing import Iterator, List, Optional, Sequence, Tuple
@@ -43,12 +44,10 @@ class Library(Way):
         # (another library of this name, which may hang, or another version, is found out in a thread of its own)
         got: SimpleQueue[Tuple[int, bytes]] = SimpleQueue()
         _thread.start_new_thread(lambda: got.put(self.run(b"batch", b"\n".join((*QUESTIONS, b"")))), ())
-        try:
-            is_right = got.get(timeout=PATIENCE) == (1, BREAK.join(QUESTIONS.values()))
-        except Empty:
-            is_right = False
-        if not is_right:
-            raise not_calc(path)
+        with suppress(Empty):
+            if got.get(timeout=PATIENCE) == (1, BREAK.join(QUESTIONS.values())):
+                return
+        raise not_calc(path)
 
     def run(self, line: bytes, given: bytes = b"") -> Tuple[int, bytes]:
         """The status of the line's command, and its text. The text is asked for once more if it is longer than the buffer."""

@@ -100,13 +100,10 @@ def spawn(task: Callable[..., object], *arguments: Any) -> None:
 
 
 def sent(line: str) -> Optional[bytes]:
-    """The line of a batch that is sent for a line, or nothing if a batch passes over it, since it has no word or is a comment.
-
-    A line feed at its end is dropped, with or without a carriage return before it. One within it, and a zero byte, are sent as another byte
-    that is in no word of a command, and is refused at its place.
+    """The line of a batch that is sent for a line, or nothing if a batch passes over it, since it has no word or is a comment. A line feed at its
+    end is dropped, with or without a carriage return before it. One within it, and a zero byte, are sent as a byte that is refused at its place.
     >>> sent("mult 1 - 1\\n"), sent("# a comment"), sent(" "), sent("mult 1\\n- 1")
-    (b'mult 1 - 1', None, None, b'mult 1\\x01- 1')
-    """
+    (b'mult 1 - 1', None, None, b'mult 1\\x01- 1')"""
     if type(line) is str and line[:1].isalpha() and line.isascii() and line.isprintable():
         return line.encode()
     if not isinstance(line, str):
