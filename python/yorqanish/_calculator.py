@@ -99,8 +99,8 @@ class Calculator(ContextManager["Calculator"]):
 
     def _asked(self, kind: Type[Answer], command: str, *values: Any, rows: Any = None, timeout: Seconds) -> Answer:
         """The answer of a command to these arguments."""
-        words = words_for(command, values, rows)
-        answer: Answer = answer_of(words, self._desk(timeout).texts([" ".join(words)])[0], self._home)
+        words, desk = words_for(command, values, rows), self._own if timeout is None else self._desk(timeout)
+        answer: Answer = answer_of(words, desk.texts([" ".join(words)])[0], self._home)
         return answer
 
     def text(self, *parts: Words, timeout: Seconds = None) -> str:

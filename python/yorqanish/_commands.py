@@ -45,16 +45,20 @@ COMMANDS: Dict[str, List[Argument]] = {
 }
 
 
+# (which are unpacked faster)
+PLAIN = {name: [tuple(it) for it in them] for name, them in COMMANDS.items()}
+
+
 @lru_cache(1 << 14)
 def typed(values: Numbers) -> str:
-    """The words of a list. (The same lists come again and again.)"""
-    return " ".join(map(str, values))
+    """The words of a list: `3 2 1` of (3, 2, 1). (The same lists come again and again.)"""
+    return repr(values)[1:-1].replace(",", "")
 
 
 def words_for(command: str, values: Iterable[Any], rows: Any = None) -> List[str]:
     """The words of a call with these arguments, and with this number of variables; those of a list are in one piece."""
     them, inner = [command] if rows is None else [command, "-r", str(whole(rows, "rows"))], cast(Numbers, ())
-    for (name, sort, sign), value in zip(COMMANDS[command], values):
+    for (name, sort, sign), value in zip(PLAIN[command], values):
         if sign:
             them.append(sign)
         if sort == PARTITION:

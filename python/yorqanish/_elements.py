@@ -11,7 +11,7 @@ from fractions import Fraction
 from functools import lru_cache, reduce
 from numbers import Rational
 from operator import mul
-from typing import Any, Callable, Dict, Generic, ItemsView, Iterable, Iterator, KeysView, List, Mapping, NamedTuple, Optional, SupportsIndex, Tuple, Union, ValuesView
+from typing import Any, Callable, Dict, Generic, ItemsView, Iterable, Iterator, KeysView, List, Mapping, NamedTuple, Optional, SupportsIndex, Tuple, Union, ValuesView, cast
 
 from ._arguments import Coefficient, Fixed, Label, Numbers, integer, ratio, text_of, whole
 from ._commands import typed
@@ -138,10 +138,9 @@ class Parent(Fixed, Generic[Label]):
         if x.parent == self:
             return Expansion._made(x._terms, self)
         if self.name in BASES and x.parent.name in BASES:
-            found: Expansion[Label, Any] = self.home().expand(self.name, x)
-            return found
+            return cast("Expansion[Label, Any]", self.home().expand(self.name, x))
         if self.name == "in_variables" and x.parent.name in BASES:
-            return Expansion._made({label: c for label, c in x.to("s") if self.fits(label)}, self)
+            return Expansion._made({label: c for label, c in x.to("s") if self.form.fits(*self.numbers, label)}, self)
         if self.name == "cohomology" and x.parent.name == "quantum_ring" and x.parent.command == self.command:
             return Expansion._made({label: c for (power, label), c in x if not power}, self)
         raise TypeError(f"an element of {x.parent} is none of {self}, which is another ring")
@@ -172,10 +171,6 @@ class Parent(Fixed, Generic[Label]):
             raise TypeError(f"{name} is of calc.s, and not of {self}")
         return self.home.parent(name, *numbers)
 
-    def fits(self, label: Any) -> bool:
-        """Whether a label of the right kind is one of the basis."""
-        return bool(self.form.fits(*self.numbers, label))
-
     def given(self, pairs: Iterable[Tuple[Any, Any]]) -> Dict[Any, Number]:
         """The terms of pairs of a label and a coefficient, without those whose coefficient is 0. A label is given once."""
         found: Dict[Any, Number] = {}
@@ -183,7 +178,7 @@ class Parent(Fixed, Generic[Label]):
             label = self.kind.find(given_as)
             if label in found:
                 raise ValueError(f"the label {label!r} is given twice")
-            if not self.fits(label):
+            if not self.form.fits(*self.numbers, label):
                 raise ValueError(f"the label: {given_as!r} is none of {self}")
             found[label] = exact(c)
         return {label: c for label, c in found.items() if c}
@@ -463,15 +458,13 @@ class Expansion(Fixed, Generic[Label, Coefficient]):
         count = integer(exponent)
         if count is None or count < 0:
             raise ValueError(f"the exponent {exponent!r} is not a number that is at least 0")
-        power: Expansion[Label, Any] = reduce(mul, [self] * count) if count else self.parent.one()
-        return power
+        return cast("Expansion[Label, Coefficient]", reduce(mul, [self] * count) if count else self.parent.one())
 
     def to(self, basis: str) -> Expansion[Any, Any]:
         """A symmetric function in another basis: s, p, h, e or m."""
         if self.parent.name not in BASES:
             raise TypeError(f"to and omega are of symmetric functions in a basis, and not of {self.parent}")
-        found: Expansion[Any, Any] = self.parent.home().expand(basis, self)
-        return found
+        return cast("Expansion[Any, Any]", self.parent.home().expand(basis, self))
 
     def omega(self) -> Expansion[Label, Any]:
         """The image of a symmetric function under the involution that takes s of a partition to s of its conjugate, in the same basis."""

@@ -3,9 +3,7 @@ from __future__ import annotations
 
 import _thread
 import ctypes
-import sys
 from contextlib import suppress
-from functools import lru_cache
 from queue import Empty, SimpleQueue
 from typing import Iterator, List, Optional, Sequence, Tuple
 
@@ -28,6 +26,8 @@ class Library(Way):
     `__del__` makes in the middle of another one, do not disturb each other."""
 
     can_be_stopped = False
+    # The program, which lists tableaux.
+    beside: Optional[Way] = None
 
     def __init__(self, path: str) -> None:
         self.path = path
@@ -77,13 +77,10 @@ class Library(Way):
 
     def listed(self, line: bytes, seconds: Optional[float]) -> Iterator[str]:
         """The program lists one line after another; the library lists them all first, which is all there is on Windows."""
+        from ._search import IS_WINDOWS, program
+
         self.check()
-        return iter(self.blocks([line], seconds)[0].splitlines()) if sys.platform == "win32" else lister().listed(line, seconds)
-
-
-@lru_cache(None)
-def lister() -> Way:
-    """The program beside the library."""
-    from ._search import program
-
-    return program(None)
+        if IS_WINDOWS:
+            return iter(self.blocks([line], seconds)[0].splitlines())
+        Library.beside = Library.beside or program(None)
+        return Library.beside.listed(line, seconds)

@@ -39,9 +39,8 @@ OTHERS: Dict[str, Callable[[str, List[str]], Any]] = {
 
 def answer_of(words: List[Any], text: str, home: Home) -> Any:
     """The answer to the words of a line: what the command's method answers, a list for `tab`, and the printed text for `-m`."""
-    read = OTHERS.get(words[0])
-    if read:
-        return read(text, words)
+    if words[0] in OTHERS:
+        return OTHERS[words[0]](text, words)
     return text.rstrip("\n") if "-m" in words[1:4] else Expansion._read(text, parent_of(home, words))
 
 

@@ -34,10 +34,8 @@ STARTS = threading.RLock()
 IS_ENDING = False
 # A group of its own; before Python 3.11 that takes a session of its own.
 GROUP: Dict[str, Any] = {"process_group": 0} if sys.version_info >= (3, 11) else {"start_new_session": True}
-# The longest wait at a time, in seconds: the system counts milliseconds in a machine word.
-LONGEST_WAIT = 86400.0
-# How often it is asked, in seconds, whether a process that was ended has gone.
-GOING = 0.005
+# The longest wait at a time, since the system counts milliseconds in a machine word, and how often it is asked whether a process has gone: in seconds.
+LONGEST_WAIT, GOING = 86400.0, 0.005
 
 
 @contextmanager

@@ -57,8 +57,7 @@ class Grid(Tuple[Tuple[Numbers, ...], ...]):
         for i, row in enumerate(self):
             for j, shape in enumerate(row):
                 parts.append(square(side * j, side * i, side, ' stroke="lightgray"'))
-                places = ((a, b) for a, part in enumerate(shape, 1) for b in range(1, part + 1))
-                parts += [square(side * j + SMALL * b, side * i + SMALL * a, SMALL) for a, b in places]
+                parts += [square(side * j + SMALL * b, side * i + SMALL * a, SMALL) for a, part in enumerate(shape, 1) for b in range(1, part + 1)]
         return Picture(parts, side * max(map(len, self), default=0), side * len(self)).svg
 
 

@@ -40,10 +40,8 @@ LAST, END, BREAK, ENDED = b"rsk", b"P .\nQ .\n", b"--\n", b"--\nP .\nQ .\n"
 
 # What is sent for a line that a batch passes over, where it is to be refused: it is refused at its beginning.
 NO_COMMAND = b"!"
-# A line of a batch has at most this many bytes.
-LONGEST = 4096
-# How long the first answers may take, in seconds.
-PATIENCE = 20.0
+# A line of a batch has at most this many bytes; the first answers may take so many seconds.
+LONGEST, PATIENCE = 4096, 20.0
 
 
 class NoCalculator(RuntimeError):
@@ -80,7 +78,7 @@ class Way:
         return self._is_closed or self._whole is not None and self._whole._is_closed
 
     def check(self) -> None:
-        if self.is_over():
+        if (self._is_closed or self._whole) and self.is_over():
             raise NoCalculator("the calculator is closed")
 
     def close(self) -> None:
