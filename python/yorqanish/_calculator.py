@@ -20,8 +20,8 @@ Seconds = Optional[SupportsFloat]
 Answer = TypeVar("Answer")
 # An expression: its text, an element of a basis of symmetric functions, or one of Sage's.
 Expression = Union[str, Expansion[Partition, Any]]
-# The largest degree of an expression that is expanded in s.
-LARGEST_DEGREE = 20
+# The largest degree of an expression that is expanded in s, and the bytes that a term of an expression has at most.
+LARGEST_DEGREE, LONGEST_TERM = 20, 160
 
 
 class Calculator(ContextManager["Calculator"]):
@@ -107,7 +107,9 @@ class Calculator(ContextManager["Calculator"]):
         """The text that `calc` prints for these arguments: strings, numbers and shapes. An error of `calc` is raised.
         >>> Calculator().text("coef", (3, 2, 1), "-", (2, 1), "-", (2, 1))
         '2\\n'"""
-        return self._desk(timeout).texts([" ".join(filter(None, map(_word, parts)))])[0]
+        lists: Iterable[Any] = (it if isinstance(it, str) or _arguments.integer(it) is None else (it,) for it in cast("Tuple[Any, ...]", parts))
+        words = [text_of(it) if isinstance(it, str) else typed(numbers(it, "a word")) for it in lists]
+        return self._desk(timeout).texts([" ".join(filter(None, words))])[0]
 
     def mult(self, *shapes: Shape, rows: Optional[SupportsIndex] = None, timeout: Seconds = None) -> Expansion[Partition, int]:
         """The product of two to eight Schur functions, in Schur functions; with `rows=K`, in K variables.
@@ -194,7 +196,7 @@ class Calculator(ContextManager["Calculator"]):
         return sum(others, first)
 
     def _expressions(self, value: Any, name: str, most: Optional[int]) -> List[str]:
-        """The texts of an expression: one, or of a long element those of parts that have at most so many bytes, as far as its terms let them."""
+        """The texts of an expression: one, or of an element that has more bytes than this those of its parts."""
         if isinstance(value, str):
             if not value.strip():
                 raise ValueError(f"{name}: a text without a word is not an expression")
@@ -204,7 +206,9 @@ class Calculator(ContextManager["Calculator"]):
             what = f"an element of {value.parent}" if isinstance(value, Expansion) else repr(value)
             raise TypeError(f"{name}: an expression is a string or a symmetric function in one of the bases s, p, h, e, m, and {what} is none")
         element = self._home.parent(basis)(value)
-        return [str(element)] if most is None else list(element._parts(most))
+        terms, text = list(element), str(element)
+        count = max(1, len(terms) if most is None or len(text) <= most else most // LONGEST_TERM)
+        return [element._written(terms[at : at + count]) for at in range(0, len(terms), count)] or [text]
 
     def kostka(self, shape: Shape, content: Shape, *, timeout: Seconds = None) -> int:
         """The number of semistandard tableaux of a shape with this content: the coefficient of s_shape in h_content. A shape has at most 20 cells."""
@@ -312,10 +316,3 @@ class Calculator(ContextManager["Calculator"]):
         way = self._way.apart(True)
         calculator.__dict__.update(self.__dict__, _way=way, _own=self._own._replace(way=way))
         return Task(partial(getattr(calculator, method.__name__), *arguments, **options), calculator._way.close)
-
-
-def _word(part: Words) -> str:
-    """A part of a line: a text, a number or a shape."""
-    if isinstance(part, str):
-        return text_of(part)
-    return typed(numbers([part] if _arguments.integer(part) is not None else part, "a word"))  # type: ignore[arg-type, list-item]

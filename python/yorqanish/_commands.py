@@ -46,7 +46,7 @@ COMMANDS: Dict[str, List[Argument]] = {
 
 
 # (which are unpacked faster)
-PLAIN = {name: [tuple(it) for it in them] for name, them in COMMANDS.items()}
+PLAIN: Dict[str, List[Any]] = {name: [tuple(it) for it in them] for name, them in COMMANDS.items()}
 
 
 @lru_cache(1 << 14)

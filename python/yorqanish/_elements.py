@@ -512,17 +512,6 @@ class Expansion(Fixed, Generic[Label, Coefficient]):
         first, last = self._written(terms[: MOST_SHOWN - SHOWN_AT_END], True), self._written(terms[-SHOWN_AT_END:], True)
         return f"${first}+\\cdots{'' if last.startswith('-') else '+'}{last}$ ({len(self):,} terms)"
 
-    def _parts(self, most: int) -> Iterator[str]:
-        """The one-line forms of elements whose sum this is, each of at most so many bytes, or of one term; one if there are no terms."""
-        text = ""
-        for label, c in self:
-            term = self._written([(label, c)])
-            if text and len(text) + 1 + len(term) > most:
-                yield text
-                text = ""
-            text += term if not text or c < 0 else f"+{term}"
-        yield text or "0"
-
     def to_sage(self, ring: Any = None) -> Any:
         """The element of Sage: of `SymmetricFunctions(QQ)`, of its tensor square for a coproduct, of `SymmetricFunctions` over QQ[q] for a
         quantum product, of a polynomial ring in x0, x1, .. for monomials, of `SchubertPolynomialRing(ZZ)` for permutations. For other parents

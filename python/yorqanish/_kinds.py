@@ -78,15 +78,6 @@ def atom(letter: str, label: Numbers) -> str:
     return f"{letter}[{','.join(map(str, label))}]"
 
 
-def indexed(letter: str, label: Numbers) -> str:
-    return f"{letter}_{{{','.join(map(str, label)) or chr(92) + 'emptyset'}}}"
-
-
-def permuted(letter: str, label: Numbers) -> str:
-    """A Schubert polynomial. (Between the letters of a permutation LaTeX drops blanks, so that a letter over 9 needs commas.)"""
-    return f"\\mathfrak{{S}}_{{{('' if max(label) < 10 else ',').join(map(str, label))}}}"
-
-
 def powers_of(letter: str, label: Numbers, index: str = "{}", power: str = "^{}", between: str = "*") -> str:
     """A monomial by its exponents; nothing if they are all 0."""
     return between.join(letter + index.format(i) + (power.format(e) if e > 1 else "") for i, e in enumerate(label, 1) if e)
@@ -111,10 +102,11 @@ def both(first: Kind, second: Kind, signs: Tuple[str, str] = ("*", " "), order: 
     return Kind(find, by_both, sizes, written("plain"), written("latex"), (first.one, second.one), **more)
 
 
-SYMMETRIC = Kind(a_partition, by_degree, sum, atom, indexed)
+SYMMETRIC = Kind(a_partition, by_degree, sum, atom, lambda letter, it: f"{letter}_{{{','.join(map(str, it)) or chr(92) + 'emptyset'}}}")
 MONOMIALS = Kind(lambda it: without_zeros(numbers(it, "the label")), by_degree, sum, powers_of, product)
-# (by increasing number of inversions, then in increasing lexicographic order)
-PERMUTATIONS = Kind(a_permutation, lambda it: (inversions(it), it), inversions, atom, permuted, (1,))
+# (By increasing number of inversions, then in increasing lexicographic order. LaTeX drops blanks between letters, so that one over 9 needs commas.)
+IN_S: Callable[[str, Any], str] = lambda letter, it: f"\\mathfrak{{S}}_{{{('' if max(it) < 10 else ',').join(map(str, it))}}}"
+PERMUTATIONS = Kind(a_permutation, lambda it: (inversions(it), it), inversions, atom, IN_S, (1,))
 PAIRS = both(SYMMETRIC, SYMMETRIC, ("#", " \\otimes "))
 # (the exponent of q, whose degree depends on the ring)
 IN_Q = (lambda letter, it: powers_of("q", (it,), index="")), (lambda letter, it: product("q", (it,), index=""))

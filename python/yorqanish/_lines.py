@@ -16,7 +16,8 @@ from typing import Any, Callable, Deque, Dict, Generator, Generic, Iterable, Ite
 from ._arguments import text_of
 from ._commands import Refusal, inner_of, words_of
 from ._elements import Expansion, Home, home_of, parent_of
-from ._tableaux import grid_of, pair_of, tableau_of
+from ._kinds import listed
+from ._tableaux import Grid, pair_of, tableau_of
 from ._ways import NO_COMMAND, Ended, NoCalculator, Way, sent, spawn
 
 # A window of lines is to take about this long, in seconds. One that takes longer than LATE is given up, and its lines are done one by one: there are
@@ -33,7 +34,7 @@ OTHERS: Dict[str, Callable[[str, List[str]], Any]] = {
     "rsk": lambda text, words: pair_of(text),
     "unrsk": lambda text, words: tuple(map(int, text.split())),
     "rect": lambda text, words: tableau_of(text.rstrip("\n")),
-    "growth": lambda text, words: grid_of(text),
+    "growth": lambda text, words: Grid(tuple(map(listed, line.split(" "))) for line in text.splitlines()),
 }
 
 

@@ -257,10 +257,7 @@ class Batch(ContextManager["Batch"]):
         for it in (self._coming, self._both):
             it.register(self.out, select.POLLIN)
         self._both.register(self.into, select.POLLOUT)
-        self._try()
-
-    def _try(self) -> None:
-        """The first exchange, by which another program of this name is found out, or another version."""
+        # (by the first exchange another program of this name is found out, or another version)
         try:
             self.exchange(list(QUESTIONS), PATIENCE, BREAK + BREAK.join((*QUESTIONS.values(), END)))
         except BaseException as error:

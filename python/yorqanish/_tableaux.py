@@ -6,7 +6,7 @@ from types import GeneratorType
 from typing import Any, Iterable, NamedTuple, Optional, Tuple
 
 from ._arguments import Fixed, Numbers, Row, Rows, Shape, partition, skew_tableau, without_zeros
-from ._kinds import a_partition, a_permutation, listed
+from ._kinds import a_partition, a_permutation
 
 # The side of a box, and that of a box of a small shape.
 SIDE, SMALL = 24, 6
@@ -161,7 +161,3 @@ def pair_of(text: str) -> Pair:
     if not found:
         raise ValueError(f"{text!r} is not a pair of tableaux")
     return Pair(*map(tableau_of, found.groups()))
-
-
-def grid_of(text: str) -> Grid:
-    return Grid(tuple(map(listed, line.split(" "))) for line in text.splitlines())
