@@ -3,7 +3,7 @@ from __future__ import annotations
 
 import os
 from functools import partial
-from typing import Any, Callable, ContextManager, Dict, Iterable, Iterator, List, Optional, SupportsFloat, SupportsIndex, Tuple, Type, TypeVar, Union, cast
+from typing import Any, Callable, Dict, Iterable, Iterator, List, Optional, SupportsFloat, SupportsIndex, Tuple, Type, TypeVar, Union, cast
 
 from . import _arguments, _family, _search
 from ._arguments import Exponents, Numbers, Partition, Permutation, Rows, Shape, numbers, partition, text_of, whole, without_zeros
@@ -24,7 +24,7 @@ Expression = Union[str, Expansion[Partition, Any]]
 LARGEST_DEGREE, LONGEST_TERM = 20, 160
 
 
-class Calculator(ContextManager["Calculator"]):
+class Calculator:
     """`calc`: the program `calc` in a separate process, or with `library=True` its C library in this process.
 
     Ctrl-C ends the program, and so does a call that takes longer than `timeout` seconds; the next call starts it again. The library is
@@ -80,6 +80,9 @@ class Calculator(ContextManager["Calculator"]):
     def __repr__(self) -> str:
         time = "" if self._seconds is None else f", timeout={self._seconds}"
         return f"Calculator({'library' if self._library else 'program'}={self._way.path!r}{time})"
+
+    def __enter__(self) -> Calculator:
+        return self
 
     def __exit__(self, *error: Any) -> None:
         self.close()
