@@ -49,7 +49,7 @@ COMMANDS: Dict[str, List[Argument]] = {
 PLAIN: Dict[str, List[Any]] = {name: [tuple(it) for it in them] for name, them in COMMANDS.items()}
 
 
-@lru_cache(1 << 14)
+@lru_cache(1 << 12)
 def typed(values: Numbers) -> str:
     """The words of a list: `3 2 1` of (3, 2, 1). (The same lists come again and again.)"""
     return repr(values)[1:-1].replace(",", "")

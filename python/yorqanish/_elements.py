@@ -13,7 +13,7 @@ from numbers import Rational
 from operator import mul
 from typing import Any, Callable, Dict, Generic, ItemsView, Iterable, Iterator, KeysView, List, Mapping, NamedTuple, Optional, SupportsIndex, Tuple, Union, ValuesView, cast
 
-from ._arguments import Coefficient, Fixed, Label, Numbers, integer, ratio, text_of, whole
+from ._arguments import Coefficient, Fixed, Label, Numbers, integer, ratio, whole
 from ._commands import typed
 from ._kinds import DOUBLE, MONOMIALS, PAIRS, PERMUTATIONS, QUANTUM, SYMMETRIC, Kind, Number, added, atom, term
 from ._sage import basis_of, element_of, forbid_as_coefficient, is_element, is_same, refuse_residue
