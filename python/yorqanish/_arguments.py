@@ -1,10 +1,10 @@
-"""What is taken for a number, a list of numbers, a tableau and a time: it is decided here alone, and all else is refused. The words that are
-sent for them."""
+"""What is taken for a number, a list of numbers, a tableau and a time: it is decided here alone, and all else is refused."""
 from __future__ import annotations
 
 import math
 from collections import UserString
 from collections.abc import Sequence as AnySequence
+from contextlib import suppress
 from fractions import Fraction
 from numbers import Integral, Rational
 from operator import index
@@ -74,11 +74,10 @@ def integer(value: object) -> Optional[int]:
         return value
     if not isinstance(value, Integral) or isinstance(value, bool):
         return None
-    try:
+    # (numpy's spans of time are registered, and are none)
+    with suppress(TypeError):
         return int(index(value))
-    except TypeError:
-        # (numpy's spans of time are registered, and are none)
-        return None
+    return None
 
 
 def ratio(value: Any) -> Optional[Tuple[int, int]]:
@@ -119,14 +118,14 @@ def items_of(values: Any, name: str, what: str, names: Set[str], dimensions: int
     """The items of a sequence, or of a value of one of the named types or a type derived from one. What can be gone through once only, or has no
     order or another number of dimensions, is none of them."""
     is_named = any(f"{it.__module__}.{it.__qualname__}" in names for it in type(values).__mro__)
-    is_list = isinstance(values, AnySequence) and not isinstance(values, TEXTS) or is_named
     # (Sage's tableaux and permutations have a method of this name)
     shape: Any = getattr(values, "shape", None)
     is_other = hasattr(shape, "__len__") and (len(shape) != dimensions or dimensions > 1 and 0 in shape)
-    if is_list and not is_other and len(values) > MOST_NUMBERS:
+    is_list = (isinstance(values, AnySequence) and not isinstance(values, TEXTS) or is_named) and not is_other
+    if is_list and len(values) > MOST_NUMBERS:
         raise ValueError(f"{name}: a list of more than {MOST_NUMBERS} items is too long to be sent")
-    items = tuple(values) if is_list and not is_other else ()
-    if not is_list or is_other or len(items) != len(values):
+    items = tuple(values) if is_list else ()
+    if not is_list or len(items) != len(values):
         raise TypeError(f"{name}: {values!r} is not {what}")
     return items
 
@@ -147,16 +146,14 @@ def numbers(values: Shape, name: str) -> Numbers:
 
 def without_zeros(values: Numbers) -> Numbers:
     """The numbers without the zeros at their end."""
-    end = len(values)
-    while end and not values[end - 1]:
-        end -= 1
-    return values[:end]
+    while values and not values[-1]:
+        values = values[:-1]
+    return values
 
 
 def partition(values: Shape, name: str) -> Numbers:
     """The parts of a partition, without zeros at the end."""
-    parts = numbers(values, name)
-    return parts if parts and parts[-1] else without_zeros(parts)
+    return without_zeros(numbers(values, name))
 
 
 def skew_tableau(rows: Rows, name: str) -> Tuple[Tuple[Numbers, ...], Numbers]:

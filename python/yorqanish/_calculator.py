@@ -5,11 +5,10 @@ import os
 from functools import partial
 from typing import Any, Callable, Dict, Iterable, Iterator, List, Optional, SupportsFloat, SupportsIndex, Tuple, Type, TypeVar, Union, cast
 
-from . import _arguments, _search
+from . import _arguments, _family, _search
 from ._arguments import Exponents, Numbers, Partition, Permutation, Rows, Shape, numbers, partition, text_of, whole, without_zeros
-from ._commands import Refusal, words_for
+from ._commands import typed, words_for
 from ._elements import BASES, Expansion, Home, Parent
-from ._family import Family, Row, rows_of
 from ._kinds import Number, atom
 from ._lines import Block, Desk, Lanes, Result, Source, Task, answer_of, blocks, own, with_bar
 from ._sage import basis_of
@@ -21,8 +20,8 @@ Seconds = Optional[SupportsFloat]
 Answer = TypeVar("Answer")
 # An expression: its text, an element of a basis of symmetric functions, or one of Sage's.
 Expression = Union[str, Expansion[Partition, Any]]
-# The largest degree of an expression that is expanded in s.
-LARGEST_DEGREE = 20
+# The largest degree of an expression that is expanded in s, and the bytes that a term of an expression has at most.
+LARGEST_DEGREE, LONGEST_TERM = 20, 160
 
 
 class Calculator:
@@ -36,8 +35,7 @@ class Calculator:
     `s`, `p`, `h`, `e`, `m` are the symmetric functions in a basis, `X` the Schubert polynomials, `monomials` the polynomials in x1, x2, ..
     >>> calc = Calculator()
     >>> calc.s[1] * calc.s[1] == calc.mult([1], [1])
-    True
-    """
+    True"""
 
     s: Parent[Partition]
     p: Parent[Partition]
@@ -104,106 +102,91 @@ class Calculator:
 
     def _asked(self, kind: Type[Answer], command: str, *values: Any, rows: Any = None, timeout: Seconds) -> Answer:
         """The answer of a command to these arguments."""
-        words = words_for(command, values, rows)
-        answer: Answer = answer_of(words, self._desk(timeout).texts([" ".join(map(str, words))])[0], self._home)
+        words, desk = words_for(command, values, rows), self._own if timeout is None else self._desk(timeout)
+        answer: Answer = answer_of(words, desk.texts([" ".join(words)])[0], self._home)
         return answer
 
     def text(self, *parts: Words, timeout: Seconds = None) -> str:
         """The text that `calc` prints for these arguments: strings, numbers and shapes. An error of `calc` is raised.
         >>> Calculator().text("coef", (3, 2, 1), "-", (2, 1), "-", (2, 1))
-        '2\\n'
-        """
-        return self._desk(timeout).texts([" ".join(filter(None, map(_word, parts)))])[0]
+        '2\\n'"""
+        lists: Iterable[Any] = (it if isinstance(it, str) or _arguments.integer(it) is None else (it,) for it in cast("Tuple[Any, ...]", parts))
+        words = [text_of(it) if isinstance(it, str) else typed(numbers(it, "a word")) for it in lists]
+        return self._desk(timeout).texts([" ".join(filter(None, words))])[0]
 
     def mult(self, *shapes: Shape, rows: Optional[SupportsIndex] = None, timeout: Seconds = None) -> Expansion[Partition, int]:
         """The product of two to eight Schur functions, in Schur functions; with `rows=K`, in K variables.
         >>> Calculator().mult([2, 1], [2, 1], rows=2)
-        Expansion(calc.s.in_variables(2), {(4, 2): 1, (3, 3): 1})
-        """
+        Expansion(calc.s.in_variables(2), {(4, 2): 1, (3, 3): 1})"""
         return self._asked(Expansion, "mult", *shapes, rows=rows, timeout=timeout)
 
     def skew(self, outer: Shape, inner: Shape, *, rows: Optional[SupportsIndex] = None, timeout: Seconds = None) -> Expansion[Partition, int]:
         """The skew Schur function of outer/inner, in Schur functions; with `rows=K`, in K variables.
         >>> Calculator().skew([2, 1], [1])
-        Expansion(calc.s, {(2,): 1, (1, 1): 1})
-        """
+        Expansion(calc.s, {(2,): 1, (1, 1): 1})"""
         return self._asked(Expansion, "skew", outer, inner, rows=rows, timeout=timeout)
 
     def coef(self, outer: Shape, left: Shape, right: Shape, *, timeout: Seconds = None) -> int:
         """A Littlewood-Richardson coefficient: that of the Schur function of `outer` in the product of those of `left` and `right`.
         >>> Calculator().coef([3, 2, 1], [2, 1], [2, 1])
-        2
-        """
+        2"""
         return self._asked(int, "coef", outer, left, right, timeout=timeout)
 
     def coprod(self, shape: Shape, *, timeout: Seconds = None) -> Expansion[Tuple[Partition, Partition], int]:
         """The coproduct of a Schur function. Labels are pairs of partitions.
         >>> Calculator().coprod([1])
-        Expansion(calc.s.tensor_square(), {((1,), ()): 1, ((), (1,)): 1})
-        """
+        Expansion(calc.s.tensor_square(), {((1,), ()): 1, ((), (1,)): 1})"""
         return self._asked(Expansion, "coprod", shape, timeout=timeout)
 
     def quantum(self, rows: SupportsIndex, cols: SupportsIndex, *shapes: Shape, timeout: Seconds = None) -> Expansion[Tuple[int, Partition], int]:
-        """The product of two to eight classes in the quantum cohomology of the Grassmannian Gr(rows, rows + cols). Labels are
-        pairs of the exponent of q and a partition.
+        """The product of two to eight classes in the quantum cohomology of Gr(rows, rows + cols). A label is the exponent of q and a partition.
         >>> Calculator().quantum(2, 2, [1], [2, 1])
-        Expansion(calc.quantum_ring(2, 2), {(0, (2, 2)): 1, (1, ()): 1})
-        """
+        Expansion(calc.quantum_ring(2, 2), {(0, (2, 2)): 1, (1, ()): 1})"""
         return self._asked(Expansion, "quantum", rows, cols, *shapes, timeout=timeout)
 
     def fusion(self, rows: SupportsIndex, level: SupportsIndex, *shapes: Shape, timeout: Seconds = None) -> Expansion[Partition, int]:
         """The fusion product of two to eight factors for su(rows) at this level. Columns of length `rows` are not removed.
         >>> Calculator().fusion(2, 1, [1], [1])
-        Expansion(calc.fusion_ring(2, 1), {(1, 1): 1})
-        """
+        Expansion(calc.fusion_ring(2, 1), {(1, 1): 1})"""
         return self._asked(Expansion, "fusion", rows, level, *shapes, timeout=timeout)
 
     def schubert(self, perm: Shape, *, timeout: Seconds = None) -> Expansion[Exponents, int]:
         """The Schubert polynomial of a permutation. Labels are the exponents of monomials.
         >>> Calculator().schubert([1, 3, 2])
-        Expansion(calc.monomials, {(1,): 1, (0, 1): 1})
-        """
+        Expansion(calc.monomials, {(1,): 1, (0, 1): 1})"""
         return self._asked(Expansion, "schubert", perm, timeout=timeout)
 
     def schubmult(self, left: Shape, right: Shape, *, timeout: Seconds = None) -> Expansion[Permutation, int]:
         """The product of two Schubert polynomials, in Schubert polynomials.
         >>> Calculator().schubmult([2, 1], [2, 1])
-        Expansion(calc.X, {(3, 1, 2): 1})
-        """
+        Expansion(calc.X, {(3, 1, 2): 1})"""
         return self._asked(Expansion, "schubmult", left, right, timeout=timeout)
 
     def dschubmult(self, left: Shape, right: Shape, *, timeout: Seconds = None) -> Expansion[Tuple[Permutation, Exponents], int]:
-        """The product of two double Schubert polynomials, in double Schubert polynomials. Labels are pairs of a permutation and the
-        exponents of a monomial in y.
+        """The product of two double Schubert polynomials, in such ones. A label is a permutation and the exponents of a monomial in y.
         >>> Calculator().dschubmult([1], [2, 1])
-        Expansion(calc.schubert_ring(double=True), {((2, 1), ()): 1})
-        """
+        Expansion(calc.schubert_ring(double=True), {((2, 1), ()): 1})"""
         return self._asked(Expansion, "dschubmult", left, right, timeout=timeout)
 
     def stanley(self, perm: Shape, rows: SupportsIndex, *, timeout: Seconds = None) -> Expansion[Partition, int]:
         """The Stanley symmetric function of a permutation in K variables, where K is `rows`, in Schur functions.
         >>> Calculator().stanley([2, 1, 4, 3], rows=2)
-        Expansion(calc.s.in_variables(2), {(2,): 1, (1, 1): 1})
-        """
+        Expansion(calc.s.in_variables(2), {(2,): 1, (1, 1): 1})"""
         return self._asked(Expansion, "stanley", perm, rows=whole(rows, "rows"), timeout=timeout)
 
     def expand(self, target: str, expression: Expression, *, timeout: Seconds = None) -> Expansion[Partition, Number]:
-        """An expression in the basis `target`: m, e, h, p or s. The expression is a string without blanks, or an element of one of these bases, or of
-        Sage's.
+        """An expression in the basis `target`: m, e, h, p or s. It is a string without blanks, or an element of one of these bases, or of Sage's.
         >>> calc = Calculator()
         >>> calc.expand("p", "s[2,1]")
         Expansion(calc.p, {(3,): Fraction(-1, 3), (1, 1, 1): Fraction(1, 3)})
         >>> calc.expand("h", calc.mult([1], [1]))
-        Expansion(calc.h, {(1, 1): 1})
-        """
+        Expansion(calc.h, {(1, 1): 1})"""
         return self._sum("expand", target, expression, "expression", "", timeout)
 
     def plethysm(self, target: str, outer: Expression, inner: Expression, *, timeout: Seconds = None) -> Expansion[Partition, Number]:
-        """The plethysm outer[inner] of two expressions, in the basis `target`: the monomials of `inner` are substituted for the variables
-        of `outer`.
+        """The plethysm outer[inner] of two expressions, in the basis `target`: the monomials of `inner` take the place of the variables of `outer`.
         >>> Calculator().plethysm("s", "h[2]", "h[2]")
-        Expansion(calc.s, {(4,): 1, (2, 2): 1})
-        """
+        Expansion(calc.s, {(4,): 1, (2, 2): 1})"""
         return self._sum("plethysm", target, outer, "outer", self._expressions(inner, "inner", None)[0], timeout)
 
     def _sum(self, command: str, target: str, expression: Any, name: str, inner: str, timeout: Any) -> Expansion[Partition, Number]:
@@ -216,7 +199,7 @@ class Calculator:
         return sum(others, first)
 
     def _expressions(self, value: Any, name: str, most: Optional[int]) -> List[str]:
-        """The texts of an expression: one, or of a long element those of parts that have at most so many bytes, as far as its terms let them."""
+        """The texts of an expression: one, or of an element that has more bytes than this those of its parts."""
         if isinstance(value, str):
             if not value.strip():
                 raise ValueError(f"{name}: a text without a word is not an expression")
@@ -226,7 +209,9 @@ class Calculator:
             what = f"an element of {value.parent}" if isinstance(value, Expansion) else repr(value)
             raise TypeError(f"{name}: an expression is a string or a symmetric function in one of the bases s, p, h, e, m, and {what} is none")
         element = self._home.parent(basis)(value)
-        return [str(element)] if most is None else list(element._parts(most))
+        terms, text = list(element), str(element)
+        count = max(1, len(terms) if most is None or len(text) <= most else most // LONGEST_TERM)
+        return [element._written(terms[at : at + count]) for at in range(0, len(terms), count)] or [text]
 
     def kostka(self, shape: Shape, content: Shape, *, timeout: Seconds = None) -> int:
         """The number of semistandard tableaux of a shape with this content: the coefficient of s_shape in h_content. A shape has at most 20 cells."""
@@ -236,8 +221,7 @@ class Calculator:
         return cast(int, self.expand("s", atom("h", tuple(letters)), timeout=timeout)[parts])
 
     def dimension(self, shape: Shape, *, timeout: Seconds = None) -> int:
-        """The number of standard tableaux of a shape of at most 20 cells: the dimension of the representation of the symmetric group that belongs
-        to it."""
+        """The number of standard tableaux of a shape of at most 20 cells: the dimension of its representation of the symmetric group."""
         parts = partition(shape, "shape")
         return self.kostka(parts, [1] * min(sum(parts), LARGEST_DEGREE + 1), timeout=timeout)
 
@@ -249,8 +233,7 @@ class Calculator:
         """The quantum cohomology of the Grassmannian Gr(rows, rows + cols), with the products of `quantum`.
         >>> ring = Calculator().quantum_ring(2, 2)
         >>> print(ring[2, 1] * ring[1] + 3 * ring.q)
-        s[2,2]+4*q*s[]
-        """
+        s[2,2]+4*q*s[]"""
         return self._home.parent("quantum_ring", rows, cols)
 
     def cohomology(self, rows: SupportsIndex, dimension: SupportsIndex) -> Parent[Partition]:
@@ -269,61 +252,43 @@ class Calculator:
         """The Littlewood-Richardson tableaux of a skew shape, each as soon as it is listed; with `after`, those after this one. `timeout`
         is the time for each. They come from the program also with `library=True`.
         >>> list(Calculator().tab([2, 1], [1]))
-        [Tableau(((None, 1), (1,))), Tableau(((None, 1), (2,)))]
-        """
-        line = " ".join(map(str, words_for("tab", (outer, inner) if after is None else (outer, inner, after))))
-        seconds = self._seconds if timeout is None else _arguments.seconds(timeout)
-        return own(self._listed(line, partition(inner, "inner"), seconds), self._way.check)
-
-    def _listed(self, line: str, inner: Partition, seconds: Optional[float]) -> Iterator[Tableau]:
-        try:
-            for text in self._way.listed(line.encode(), seconds):
-                if text.startswith("! "):
-                    raise Refusal.of(f"{text}\n", line)
-                if text != "0":
-                    yield tableau_of(text, inner)
-        except TimeoutError:
-            raise Desk(self._way, self._arguments, seconds).late(line) from None
+        [Tableau(((None, 1), (1,))), Tableau(((None, 1), (2,)))]"""
+        line = " ".join(words_for("tab", (outer, inner) if after is None else (outer, inner, after)))
+        desk = self._own if timeout is None else self._own._replace(seconds=_arguments.seconds(timeout))
+        return own(map(partial(tableau_of, inner=partition(inner, "inner")), desk.listed(line)), self._way.check)
 
     def rsk(self, letters: Shape, *, timeout: Seconds = None) -> Pair:
         """The insertion tableau and the recording tableau of a word, by RSK row insertion.
         >>> Calculator().rsk([3, 1, 2])
-        Pair(insertion=Tableau(((1, 2), (3,))), recording=Tableau(((1, 3), (2,))))
-        """
+        Pair(insertion=Tableau(((1, 2), (3,))), recording=Tableau(((1, 3), (2,))))"""
         return self._asked(Pair, "rsk", letters, timeout=timeout)
 
     def unrsk(self, insertion: Rows, recording: Rows, *, timeout: Seconds = None) -> Numbers:
         """The inverse of `rsk`: the word with this insertion tableau and this recording tableau.
         >>> Calculator().unrsk(((1, 2), (3,)), ((1, 3), (2,)))
-        (3, 1, 2)
-        """
+        (3, 1, 2)"""
         return self._asked(tuple, "unrsk", insertion, recording, timeout=timeout)
 
     def rect(self, outer: Shape, inner: Shape, tableau: Rows, *, timeout: Seconds = None) -> Tableau:
         """The rectification of a skew tableau by jeu de taquin. The tableau is given by its shape and its rows.
         >>> Calculator().rect([2, 2], [1], ((1,), (1, 2)))
-        Tableau(((1, 1), (2,)))
-        """
+        Tableau(((1, 1), (2,)))"""
         return self._asked(Tableau, "rect", outer, inner, tableau, timeout=timeout)
 
     def growth(self, perm: Shape, *, timeout: Seconds = None) -> Grid:
         """The growth diagram of a permutation of n letters: a tuple of rows 0 to n, where row i has the partitions at (i, 0) to (i, n).
         >>> Calculator().growth([1])
-        (((), ()), ((), (1,)))
-        """
+        (((), ()), ((), (1,)))"""
         return self._asked(Grid, "growth", perm, timeout=timeout)
 
     def batch(
         self, lines: Iterable[str], *, progress: Union[bool, Callable[[int], None]] = False, workers: Optional[int] = None, timeout: Seconds = None
     ) -> Iterator[Block]:
-        """An iterator over the outcomes of lines, in their order. An error in one line does not stop the others.
-
-        Blank lines and comments are skipped. `progress=True` shows a bar; `progress` can be a function that is called with the number of lines done so
-        far. `workers=N` distributes the lines over N processes. `timeout` is the time for each line. `lines` can be any iterable, even an endless
-        one; it is read some way ahead of the outcomes.
+        """An iterator over the outcomes of lines, in their order. An error in one does not stop the others. Blank lines and comments are skipped.
+        `progress=True` shows a bar, and a function is called with the number of lines done so far. `workers=N` distributes the lines over N processes.
+        `timeout` is the time for each line. `lines` can be any iterable, even an endless one; it is read some way ahead of the outcomes.
         >>> [it.text or it.refusal.kind for it in Calculator().batch(["mult 1 - 1", "# a comment", "mult 1 2 - 1"])]
-        ['1  (2)\\n1  (1,1)\\n', 'Shape']
-        """
+        ['1  (2)\\n1  (1,1)\\n', 'Shape']"""
         if isinstance(lines, (str, bytes)):
             raise TypeError("lines: a string is not a list of lines; use splitlines()")
         count = 1 if workers is None else whole(workers, "workers")
@@ -336,29 +301,7 @@ class Calculator:
             outcomes = with_bar(outcomes, len(lines) if isinstance(lines, (list, tuple)) else None)
         return own(blocks(outcomes, None if isinstance(progress, bool) else progress), self._way.check)
 
-    def family(
-        self,
-        template: str,
-        *,
-        progress: Union[bool, Callable[[int], None]] = False,
-        workers: Optional[int] = None,
-        timeout: Seconds = None,
-        **names: Iterable[Any],
-    ) -> Family:
-        """The table of a line whose words have names, with a row for each choice of their values, which are numbers or lists; the last name
-        changes first. A name is a word of the line, in a number such as `3n`, `n+1`, `(n-1)` or `2*n*k`, or in an atom such as `s[n,1]`. A row whose
-        line is refused has the refusal. `progress`, `workers` and `timeout` are those of `batch`.
-        >>> table = Calculator().family("coef 3n 2n n - 2n n - 2n n", n=range(1, 11))
-        >>> table.answers
-        [2, 3, 4, 5, 6, 7, 8, 9, 10, 11]
-        >>> table[1].line
-        'coef 6 4 2 - 4 2 - 4 2'
-        """
-        rows, lines = rows_of(template, names)
-        blocks_ = list(self.batch(lines, progress=progress, workers=workers, timeout=timeout))
-        if [it.line for it in blocks_] != lines:
-            raise ValueError(f"template: {template!r} is not a line")
-        return Family(names, map(Row, rows, blocks_))
+    family = _family.family
 
     def block(self, line: str, *, timeout: Seconds = None) -> Block:
         """The outcome of one line, as `batch` has it: for an executor, as in `executor.map(calc.block, lines)`."""
@@ -369,19 +312,10 @@ class Calculator:
         cancelled, its command stops.
         >>> calc = Calculator()
         >>> calc.submit(calc.coef, [2], [1], [1]).result()
-        1
-        """
+        1"""
         if getattr(method, "__self__", None) is not self:
             raise TypeError(f"submit: {method!r} is not a method of this Calculator")
         calculator = object.__new__(Calculator)
         way = self._way.apart(True)
         calculator.__dict__.update(self.__dict__, _way=way, _own=self._own._replace(way=way))
         return Task(partial(getattr(calculator, method.__name__), *arguments, **options), calculator._way.close)
-
-
-def _word(part: Words) -> str:
-    """A part of a line: a text, a number or a shape."""
-    if isinstance(part, str):
-        return text_of(part)
-    number = _arguments.integer(part)
-    return " ".join(map(str, numbers(part, "a word"))) if number is None else str(whole(number, "a word"))  # type: ignore[arg-type]

@@ -2,9 +2,11 @@
 from __future__ import annotations
 
 import re
-from typing import Any, Dict, Iterable, List, NamedTuple, Optional, Tuple, Type
+from functools import lru_cache
+from itertools import takewhile
+from typing import Any, Dict, Iterable, List, NamedTuple, Optional, Tuple, Type, cast
 
-from ._arguments import Numbers, numbers, partition, spoken, whole
+from ._arguments import Numbers, numbers, partition, spoken, whole, without_zeros
 
 # What an argument can be. Numbers and expressions are one word; the others are lists.
 PARTITION, PERMUTATION, LETTERS, TABLEAU, NUMBER, EXPRESSION = range(6)
@@ -43,25 +45,38 @@ COMMANDS: Dict[str, List[Argument]] = {
 }
 
 
-def words_for(command: str, values: Iterable[Any], rows: Any = None) -> List[Any]:
-    """The words and numbers of a call with these arguments, and with this number of variables. A tableau has the inner partition that is given
-    before it."""
-    them: List[Any] = [command] if rows is None else [command, "-r", whole(rows, "rows")]
-    inner: Numbers = ()
-    for (name, sort, sign), value in zip(COMMANDS[command], values):
+# (which are unpacked faster)
+PLAIN: Dict[str, List[Any]] = {name: [tuple(it) for it in them] for name, them in COMMANDS.items()}
+
+
+@lru_cache(1 << 12)
+def typed(values: Numbers) -> str:
+    """The words of a list: `3 2 1` of (3, 2, 1). (The same lists come again and again.)"""
+    return repr(values)[1:-1].replace(",", "")
+
+
+def words_for(command: str, values: Iterable[Any], rows: Any = None) -> List[str]:
+    """The words of a call with these arguments, and with this number of variables; those of a list are in one piece."""
+    them, inner = [command] if rows is None else [command, "-r", str(whole(rows, "rows"))], cast(Numbers, ())
+    for (name, sort, sign), value in zip(PLAIN[command], values):
         if sign:
             them.append(sign)
         if sort == PARTITION:
             parts = partition(value, name)
-            inner = parts if sign == "/" else inner
-            them += parts
+            text, inner = typed(parts), parts if sign == "/" else inner
         elif sort == NUMBER:
-            them.append(whole(value, name))
-        elif sort == TABLEAU:
-            them.append(spoken(value, name, inner))
+            text = str(whole(value, name))
         else:
-            them += numbers(value, name)
+            text = spoken(value, name, inner) if sort == TABLEAU else typed(numbers(value, name))
+        if text:
+            them.append(text)
     return them
+
+
+def inner_of(words: List[str]) -> Numbers:
+    """The inner partition of the shape that a line begins with."""
+    after = words[words.index("/") + 1 :] if "/" in words else []
+    return without_zeros(tuple(map(int, takewhile(str.isdigit, after))))
 
 
 def words_of(line: str) -> List[str]:
@@ -134,6 +149,10 @@ def shown(words: List[str], word: int) -> str:
     return " ".join([*marked[:1], *[".."] * (first > 1), *marked[first:last], *[".."] * (last < len(marked))])
 
 
+# The classes of refusals, by the names that `calc` prints.
+REFUSALS: Dict[str, Type[Refusal]] = {}
+
+
 class Refusal(ValueError):
     """Raised for a command that `calc` refuses. The message says why, and at which word of the line.
 
@@ -141,6 +160,10 @@ class Refusal(ValueError):
     are the place in it, both counted from 0. For `Large` they are None."""
 
     kind = ""
+
+    def __init_subclass__(cls, kind: str = "") -> None:
+        cls.kind = kind or cls.kind
+        REFUSALS.setdefault(cls.kind, cls)
 
     def __init__(self, line: str, word: Optional[int] = None, byte: Optional[int] = None) -> None:
         self.line, self.word, self.byte, words = line, word, byte, words_of(line)
@@ -162,35 +185,21 @@ class Refusal(ValueError):
         return REFUSALS[found[1]](line, *map(int, filter(None, found.groups()[1:])))
 
 
-class SyntaxRefusal(Refusal):
+class SyntaxRefusal(Refusal, kind="Syntax"):
     """The line is not a command. `word` and `byte` are the first place at which it is wrong."""
 
-    kind = "Syntax"
 
-
-class LiteralRefusal(Refusal):
+class LiteralRefusal(Refusal, kind="Literal"):
     """A number in the command is greater than 2^127 - 1."""
 
-    kind = "Literal"
 
-
-class RangeRefusal(Refusal):
+class RangeRefusal(Refusal, kind="Range"):
     """A limit of `calc` is exceeded."""
 
-    kind = "Range"
+
+class ShapeRefusal(Refusal, kind="Shape"):
+    """A list is no partition or permutation, rows are no tableau of the shape, a denominator is 0, or an inner expression has a minus sign or a fraction."""
 
 
-class ShapeRefusal(Refusal):
-    """A list is not a partition or permutation, rows are not a tableau of the shape, a denominator is 0, or the inner expression of a
-    plethysm has a minus sign or a fraction."""
-
-    kind = "Shape"
-
-
-class TooLarge(Refusal, OverflowError):
+class TooLarge(Refusal, OverflowError, kind="Large"):
     """A coefficient of the answer, or a bound for the intermediate numbers, is greater than 2^127 - 1."""
-
-    kind = "Large"
-
-
-REFUSALS: Dict[str, Type[Refusal]] = {it.kind: it for it in (SyntaxRefusal, LiteralRefusal, RangeRefusal, ShapeRefusal, TooLarge)}

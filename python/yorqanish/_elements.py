@@ -1,5 +1,4 @@
-"""Parents and their elements: symmetric functions in a basis or in few variables, quantum cohomology, fusion rings, Schubert polynomials, polynomials.
-A parent has its labels and its product, which is asked of `calc`; an element is a parent and a list of terms."""
+"""Parents and their elements. A parent has its labels and its product, which is asked of `calc`; an element is a parent and a list of terms."""
 from __future__ import annotations
 
 import json
@@ -9,11 +8,13 @@ from collections import Counter
 from collections.abc import Mapping as AnyMapping
 from contextlib import suppress
 from fractions import Fraction
-from functools import lru_cache, partial
+from functools import lru_cache, reduce
 from numbers import Rational
-from typing import Any, Callable, Dict, Generic, ItemsView, Iterable, Iterator, KeysView, List, Mapping, NamedTuple, Optional, SupportsIndex, Tuple, Union, ValuesView
+from operator import mul
+from typing import Any, Callable, Dict, Generic, ItemsView, Iterable, Iterator, KeysView, List, Mapping, NamedTuple, Optional, SupportsIndex, Tuple, Union, ValuesView, cast
 
-from ._arguments import Coefficient, Fixed, Label, Numbers, integer, ratio, text_of, whole
+from ._arguments import Coefficient, Fixed, Label, Numbers, integer, ratio, whole
+from ._commands import typed
 from ._kinds import DOUBLE, MONOMIALS, PAIRS, PERMUTATIONS, QUANTUM, SYMMETRIC, Kind, Number, added, atom, term
 from ._sage import basis_of, element_of, forbid_as_coefficient, is_element, is_same, refuse_residue
 
@@ -26,27 +27,26 @@ MOST_SHOWN, SHOWN_AT_END = 60, 5
 
 
 class Form(NamedTuple):
-    """What is known of a parent by its name: how one writes it, the kind of its labels and their letter, the words of the command of its products,
-    its numbers, and whether a label is one of its basis, by these."""
+    """What is known of a parent by its name. By its numbers one knows the command of its products, and whether a label is one of its basis."""
 
     written: str
     kind: Kind
     letter: str
-    command: str = ""
+    command: Callable[..., str] = "".format
     numbers: Tuple[str, ...] = ()
     fits: Callable[..., Any] = lambda label: True
 
 
 FORMS: Dict[str, Form] = {
     **{letter: Form(f"calc.{letter}", SYMMETRIC, letter) for letter in "phe"},
-    "s": Form("calc.s", SYMMETRIC, "s", "mult"),
-    "m": Form("calc.m", SYMMETRIC, "m", "expand m"),
-    "in_variables": Form("calc.s.in_variables({})", SYMMETRIC, "s", "mult -r {}", ("rows",), lambda rows, it: len(it) <= rows),
-    "quantum_ring": Form("calc.quantum_ring({}, {})", QUANTUM, "s", "quantum {} {}", ("rows", "cols"), lambda rows, cols, it: len(it[1]) <= rows and sum(it[1][:1]) <= cols),
-    "cohomology": Form("calc.cohomology({}, {})", SYMMETRIC, "s", "quantum {} {}", ("rows", "dimension"), lambda rows, n, it: len(it) <= rows and sum(it[:1]) <= n - rows),
-    "fusion_ring": Form("calc.fusion_ring({}, {})", SYMMETRIC, "s", "fusion {} {}", ("rows", "level"), lambda rows, level, it: len(it) <= rows and sum(it[:1]) - sum(it[rows - 1 :]) <= level),
-    "X": Form("calc.X", PERMUTATIONS, "X", "schubmult"),
-    "double_X": Form("calc.schubert_ring(double=True)", DOUBLE, "X", "dschubmult"),
+    "s": Form("calc.s", SYMMETRIC, "s", "mult".format),
+    "m": Form("calc.m", SYMMETRIC, "m", "expand m".format),
+    "in_variables": Form("calc.s.in_variables({})", SYMMETRIC, "s", "mult -r {}".format, ("rows",), lambda rows, it: len(it) <= rows),
+    "quantum_ring": Form("calc.quantum_ring({}, {})", QUANTUM, "s", "quantum {} {}".format, ("rows", "cols"), lambda rows, cols, it: len(it[1]) <= rows and sum(it[1][:1]) <= cols),
+    "cohomology": Form("calc.cohomology({}, {})", SYMMETRIC, "s", lambda rows, n: f"quantum {rows} {n - rows}", ("rows", "dimension"), lambda rows, n, it: len(it) <= rows and sum(it[:1]) <= n - rows),
+    "fusion_ring": Form("calc.fusion_ring({}, {})", SYMMETRIC, "s", "fusion {} {}".format, ("rows", "level"), lambda rows, level, it: len(it) <= rows and sum(it[:1]) - sum(it[rows - 1 :]) <= level),
+    "X": Form("calc.X", PERMUTATIONS, "X", "schubmult".format),
+    "double_X": Form("calc.schubert_ring(double=True)", DOUBLE, "X", "dschubmult".format),
     "monomials": Form("calc.monomials", MONOMIALS, "x"),
     "tensor_square": Form("calc.s.tensor_square()", PAIRS, "s"),
 }
@@ -57,7 +57,7 @@ class Home:
 
     def __init__(self, arguments: Any = (None, None, None, None), calculator: Any = None) -> None:
         self.arguments, self._calculator = arguments, weakref.ref(calculator) if calculator else None
-        self._parents: Dict[Any, Parent[Any]] = {}
+        self.known: Dict[Any, Parent[Any]] = {}
 
     def __call__(self) -> Any:
         from ._calculator import Calculator
@@ -65,13 +65,10 @@ class Home:
         return self._calculator and self._calculator() or Calculator._opened(*self.arguments)
 
     def parent(self, name: str, *numbers: Any) -> Parent[Any]:
-        found = None if numbers else self._parents.get((name, ()))
-        if found is None:
-            if name not in FORMS or len(numbers) != len(FORMS[name].numbers):
-                raise ValueError(f"{(name, *numbers)!r} is no parent")
-            counts = tuple(map(whole, numbers, FORMS[name].numbers))
-            found = self._parents.setdefault((name, counts), Parent(self, name, counts))
-        return found
+        if name not in FORMS or len(numbers) != len(FORMS[name].numbers):
+            raise ValueError(f"{(name, *numbers)!r} is no parent")
+        key = name, tuple(map(whole, numbers, FORMS[name].numbers))
+        return self.known.get(key) or self.known.setdefault(key, Parent(self, *key))
 
 
 @lru_cache(None)
@@ -88,8 +85,7 @@ class Parent(Fixed, Generic[Label]):
     >>> s[2, 1] * s[1], s([2, 1]) == s[2, 1], s(3) == 3 * s[()]
     (Expansion(calc.s, {(3, 1): 1, (2, 2): 1, (2, 1, 1): 1}), True, True)
     >>> p(s[2]), s.in_variables(1)(s[1, 1] + s[2])
-    (Expansion(calc.p, {(2,): Fraction(1, 2), (1, 1): Fraction(1, 2)}), Expansion(calc.s.in_variables(1), {(2,): 1}))
-    """
+    (Expansion(calc.p, {(2,): Fraction(1, 2), (1, 1): Fraction(1, 2)}), Expansion(calc.s.in_variables(1), {(2,): 1}))"""
 
     __slots__ = ("name", "numbers", "home", "form", "kind", "__weakref__")
 
@@ -123,20 +119,16 @@ class Parent(Fixed, Generic[Label]):
     def __hash__(self) -> int:
         return hash((self.name, self.numbers))
 
-    # ---- its elements
-
     def __getitem__(self, label: Any) -> Expansion[Label, int]:
-        number = integer(label)
-        return Expansion.from_pairs(self, [(self.kind.of(label if number is None else (number,)), 1)])
+        return Expansion.from_pairs(self, [(self.kind.of(label if integer(label) is None else (label,)), 1)])
 
     def __call__(self, value: Any) -> Expansion[Label, Any]:
         if isinstance(value, Expansion):
             return self._converted(value)
         if ratio(value):
             return Expansion._made({self.kind.one: exact(value)} if exact(value) else {}, self)
-        basis = basis_of(value)
-        if basis:
-            return self._converted(Expansion(self.home.parent(basis), value.monomial_coefficients()))
+        if basis_of(value):
+            return self._converted(Expansion(self.home.parent(str(basis_of(value))), value.monomial_coefficients()))
         if hasattr(value, "keys") and not isinstance(value, AnyMapping):
             # (a column of pandas could be the parts of a label, or coefficients by their labels)
             raise TypeError(f"{self}: {value!r} has keys, but is no mapping; a list of it is a label, and a dict of it has terms")
@@ -146,11 +138,10 @@ class Parent(Fixed, Generic[Label]):
         if x.parent == self:
             return Expansion._made(x._terms, self)
         if self.name in BASES and x.parent.name in BASES:
-            found: Expansion[Label, Any] = self.home().expand(self.name, x)
-            return found
+            return cast("Expansion[Label, Any]", self.home().expand(self.name, x))
         if self.name == "in_variables" and x.parent.name in BASES:
-            return Expansion._made({label: c for label, c in x.to("s") if self.fits(label)}, self)
-        if self.name == "cohomology" and (x.parent.name, x.parent.numbers) == ("quantum_ring", self._box()):
+            return Expansion._made({label: c for label, c in x.to("s") if self.form.fits(*self.numbers, label)}, self)
+        if self.name == "cohomology" and x.parent.name == "quantum_ring" and x.parent.command == self.command:
             return Expansion._made({label: c for (power, label), c in x if not power}, self)
         raise TypeError(f"an element of {x.parent} is none of {self}, which is another ring")
 
@@ -180,10 +171,6 @@ class Parent(Fixed, Generic[Label]):
             raise TypeError(f"{name} is of calc.s, and not of {self}")
         return self.home.parent(name, *numbers)
 
-    def fits(self, label: Any) -> bool:
-        """Whether a label of the right kind is one of the basis."""
-        return bool(self.form.fits(*self.numbers, label))
-
     def given(self, pairs: Iterable[Tuple[Any, Any]]) -> Dict[Any, Number]:
         """The terms of pairs of a label and a coefficient, without those whose coefficient is 0. A label is given once."""
         found: Dict[Any, Number] = {}
@@ -191,16 +178,15 @@ class Parent(Fixed, Generic[Label]):
             label = self.kind.find(given_as)
             if label in found:
                 raise ValueError(f"the label {label!r} is given twice")
-            if not self.fits(label):
+            if not self.form.fits(*self.numbers, label):
                 raise ValueError(f"the label: {given_as!r} is none of {self}")
             found[label] = exact(c)
         return {label: c for label, c in found.items() if c}
 
-    # ---- their products
-
-    def _box(self) -> Numbers:
-        rows, count = self.numbers
-        return rows, count - rows
+    @property
+    def command(self) -> str:
+        """The words before the factors."""
+        return self.form.command(*self.numbers)
 
     def product(self, left: Dict[Any, Number], right: Dict[Any, Number]) -> Dict[Any, Number]:
         """The product of the terms of two elements."""
@@ -212,7 +198,7 @@ class Parent(Fixed, Generic[Label]):
                     label = added(a, b) if self.name == "monomials" else tuple(sorted(a + b, reverse=True))
                     table[label] = table.get(label, 0) + c * d
             return table
-        if not self.form.command:
+        if not self.command:
             raise TypeError(f"{self} has no product here")
         return self._summed(self._weights(left, right))
 
@@ -230,7 +216,9 @@ class Parent(Fixed, Generic[Label]):
 
     def _summed(self, weights: Dict[Tuple[Numbers, Numbers], Dict[Any, Number]]) -> Dict[Any, Number]:
         """The sum of products. Their lines are counted before they are read, since most of them come again and again."""
-        texts = self.home()._desk(None).texts([self._line(*pair) for pair in weights])
+        words, in_m = self.command, self.name == "m"
+        lines = [f"{words} {atom('m', a)}*{atom('m', b)}" if in_m else f"{words} {typed(a)} - {typed(b)}" for a, b in weights]
+        texts = self.home()._desk(None).texts(lines)
         together: Dict[Any, List[str]] = {}
         for text, of_pair in zip(texts, weights.values()):
             for it in of_pair.items():
@@ -246,18 +234,14 @@ class Parent(Fixed, Generic[Label]):
                     table[label] = table.get(label, 0) + c * weight * count
         return table
 
-    def _line(self, left: Numbers, right: Numbers) -> str:
-        """The command of a product of two basis elements."""
-        command = self.form.command.format(*(self._box() if self.name == "cohomology" else self.numbers))
-        return f"{command} {atom('m', left)}*{atom('m', right)}" if self.name == "m" else " ".join(map(str, (command, *left, "-", *right)))
-
 
 def parent_of(home: Home, line: List[Any]) -> Parent[Any]:
     """The parent of the answer to the words of a command that answers with a list of terms."""
-    name = ANSWERS[line[0]]
-    if len(line) > 1 and line[1] == "-r":
-        return home.parent("in_variables", int(line[2]))
-    return home.parent(name, *map(int, line[1:3])) if name in ("quantum_ring", "fusion_ring") else home.parent(name or line[1])
+    name, numbers = ANSWERS[line[0]] or line[1], line[1:3]
+    if line[1:2] == ["-r"]:
+        name, numbers = "in_variables", line[2:3]
+    key = name, tuple(map(int, numbers)) if FORMS[name].numbers else ()
+    return home.known.get(key) or home.parent(name, *key[1])
 
 
 # The parents of these lists; those of `expand` and `plethysm` are named by the next word.
@@ -272,8 +256,7 @@ def exact(value: Any) -> Number:
     parts = ratio(value)
     if parts is None:
         raise TypeError(f"{value!r} is not an exact number")
-    top, bottom = parts
-    return top // bottom if top % bottom == 0 else Fraction(top, bottom)
+    return parts[0] // parts[1] if parts[0] % parts[1] == 0 else Fraction(*parts)
 
 
 def _scalar(value: Any) -> Optional[Number]:
@@ -303,8 +286,7 @@ class Expansion(Fixed, Generic[Label, Coefficient]):
     5/3*s[2]+2*s[1,1]+s[]
 
     Elements of one parent are added, multiplied and compared, and those of two bases of symmetric functions are added and multiplied in the basis
-    of the left one. A number stands for its multiple of 1. Between other parents there is no operation. `==` takes a mapping for its terms.
-    """
+    of the left one. A number stands for its multiple of 1. Between other parents there is no operation. `==` takes a mapping for its terms."""
 
     __slots__ = ("parent", "_terms", "__weakref__")
 
@@ -355,8 +337,6 @@ class Expansion(Fixed, Generic[Label, Coefficient]):
         one[()] = self
         return one
 
-    # ---- its terms
-
     def __getitem__(self, label: Any) -> Coefficient:
         """The coefficient of a label."""
         found: Coefficient = self._terms.get(self.parent.kind.find(label), 0)
@@ -394,8 +374,6 @@ class Expansion(Fixed, Generic[Label, Coefficient]):
         of_q = sum(self.parent.numbers) if self.parent.kind is QUANTUM else 0
         return max(self.parent.kind.size(it) + (of_q and of_q * it[0]) for it in self._terms)
 
-    # ---- comparing
-
     def __eq__(self, other: object) -> Any:
         if isinstance(other, Expansion):
             if self.parent == other.parent:
@@ -423,8 +401,6 @@ class Expansion(Fixed, Generic[Label, Coefficient]):
         # (one that equals a number has its hash)
         one = self.parent.kind.one
         return hash((self.parent, frozenset(self._terms.items()))) if self._terms.keys() - {one} else hash(self._terms.get(one, 0))
-
-    # ---- calculating
 
     def _is_in_basis(self, other: Expansion[Any, Any]) -> bool:
         """Whether both are symmetric functions in a basis."""
@@ -457,8 +433,7 @@ class Expansion(Fixed, Generic[Label, Coefficient]):
     def __rsub__(self, other: Scalar) -> Expansion[Label, Coefficient]:
         return -self + other
 
-    def __pos__(self) -> Expansion[Label, Coefficient]:
-        return self
+    __pos__ = Fixed.copy
 
     def __neg__(self) -> Expansion[Label, Coefficient]:
         return self * -1
@@ -483,18 +458,13 @@ class Expansion(Fixed, Generic[Label, Coefficient]):
         count = integer(exponent)
         if count is None or count < 0:
             raise ValueError(f"the exponent {exponent!r} is not a number that is at least 0")
-        power: Any = self if count else self.parent.one()
-        for _ in range(count - 1):
-            power = power * self
-        made: Expansion[Label, Coefficient] = power
-        return made
+        return cast("Expansion[Label, Coefficient]", reduce(mul, [self] * count) if count else self.parent.one())
 
     def to(self, basis: str) -> Expansion[Any, Any]:
         """A symmetric function in another basis: s, p, h, e or m."""
         if self.parent.name not in BASES:
             raise TypeError(f"to and omega are of symmetric functions in a basis, and not of {self.parent}")
-        found: Expansion[Any, Any] = self.parent.home().expand(basis, self)
-        return found
+        return cast("Expansion[Any, Any]", self.parent.home().expand(basis, self))
 
     def omega(self) -> Expansion[Label, Any]:
         """The image of a symmetric function under the involution that takes s of a partition to s of its conjugate, in the same basis."""
@@ -511,36 +481,26 @@ class Expansion(Fixed, Generic[Label, Coefficient]):
         left, right = self.to("s")._terms, other.to("s")._terms
         return exact(sum(c * right.get(label, 0) for label, c in left.items()))
 
-    # ---- writing
-
     def __repr__(self) -> str:
         return f"Expansion({self.parent!r}, {self._terms!r})"
 
-    def _joined(self, terms: Iterable[Tuple[Any, Number]], of_label: Callable[[Any], str], of_size: Callable[[Number], str] = str, sign: str = "*") -> str:
+    def _written(self, terms: Iterable[Tuple[Any, Number]], in_latex: bool = False) -> str:
         """Terms with their signs, the coefficient 1 left out if a label follows."""
-        texts: List[str] = []
+        letter = "\\sigma" if in_latex and self.parent.name in ("cohomology", "quantum_ring") else self.parent.form.letter
+        write, sign, texts = (self.parent.kind.latex, "", []) if in_latex else (self.parent.kind.plain, "*", [])  # type: Any, str, List[str]
         for label, c in terms:
-            written = of_label(label)
-            size = "" if c in (1, -1) and written else of_size(c if c > 0 else -c)
-            texts.append(("-" if c < 0 else "+" if texts else "") + size + (sign if size and written else "") + written)
+            written, size = write(letter, label), c if c > 0 else -c
+            number = f"\\frac{{{size.numerator}}}{{{size.denominator}}}" if in_latex and size.denominator > 1 else str(size)
+            texts.append(("-" if c < 0 else "+" if texts else "") + ("" if size == 1 and written else number + (written and sign)) + written)
         return "".join(texts) or "0"
 
-    def _plain(self, terms: Iterable[Tuple[Any, Number]]) -> str:
-        return self._joined(terms, partial(self.parent.kind.plain, self.parent.form.letter))
-
     def __str__(self) -> str:
-        """The element on one line, as `calc` prints it with `-m`. A symmetric function in this form is an expression for `expand`; Sage
-        reads it too if its bases have these names, but has `s[[]]` for `s[]`."""
-        return self._plain(self)
+        """The element on one line, as `calc` prints it with `-m`, and `expand` reads a symmetric function. (Sage has `s[[]]` for `s[]`.)"""
+        return self._written(self)
 
     def latex(self) -> str:
         """The element as LaTeX."""
-        return self._latex_of(self)
-
-    def _latex_of(self, terms: Iterable[Tuple[Any, Number]]) -> str:
-        letter = "\\sigma" if self.parent.name in ("cohomology", "quantum_ring") else self.parent.form.letter
-        of_label = partial(self.parent.kind.latex, letter)
-        return self._joined(terms, of_label, lambda it: f"\\frac{{{it.numerator}}}{{{it.denominator}}}" if it.denominator > 1 else str(it), "")
+        return self._written(self, True)
 
     _latex_ = latex
 
@@ -549,31 +509,17 @@ class Expansion(Fixed, Generic[Label, Coefficient]):
         if len(self) <= MOST_SHOWN:
             return f"${self.latex()}$"
         terms = list(self)
-        first, last = self._latex_of(terms[: MOST_SHOWN - SHOWN_AT_END]), self._latex_of(terms[-SHOWN_AT_END:])
+        first, last = self._written(terms[: MOST_SHOWN - SHOWN_AT_END], True), self._written(terms[-SHOWN_AT_END:], True)
         return f"${first}+\\cdots{'' if last.startswith('-') else '+'}{last}$ ({len(self):,} terms)"
-
-    def _parts(self, most: int) -> Iterator[str]:
-        """The one-line forms of elements whose sum this is, each of at most so many bytes, or of one term; one if there are no terms."""
-        text = ""
-        for label, c in self:
-            term = self._plain([(label, c)])
-            if text and len(text) + 1 + len(term) > most:
-                yield text
-                text = ""
-            text += term if not text or c < 0 else f"+{term}"
-        yield text or "0"
 
     def to_sage(self, ring: Any = None) -> Any:
         """The element of Sage: of `SymmetricFunctions(QQ)`, of its tensor square for a coproduct, of `SymmetricFunctions` over QQ[q] for a
-        quantum product, of a polynomial ring in x0, x1, .. for monomials, of `SchubertPolynomialRing(ZZ)` for permutations.
-
-        `ring` is the ring of coefficients if it is not QQ; it is an error if a coefficient is not in it. For other parents Sage has no ring, and
-        it is a TypeError."""
+        quantum product, of a polynomial ring in x0, x1, .. for monomials, of `SchubertPolynomialRing(ZZ)` for permutations. For other parents
+        it is a TypeError. `ring` is the ring of coefficients if it is not QQ; it is an error if a coefficient is not in it."""
         return element_of(self, ring)
 
-    def _sage_(self) -> Any:
-        """The element that takes part in an operation with one of Sage's elements, whose answer is Sage's."""
-        return self.to_sage()
+    # (it takes part in an operation with one of Sage's elements, whose answer is Sage's)
+    _sage_ = to_sage
 
     def _sympy_(self) -> Any:
         """The polynomial of sympy in x1, x2, .. that a polynomial is; other elements are none of sympy's."""

@@ -4,7 +4,7 @@ from __future__ import annotations
 import re
 from importlib import import_module
 from itertools import product
-from typing import Any, Callable, Dict, Iterable, Iterator, List, NamedTuple, Optional, Sequence, Tuple, Union, overload
+from typing import Any, Callable, Dict, Iterable, Iterator, List, NamedTuple, Optional, Sequence, SupportsFloat, Tuple, Union, overload
 
 from ._arguments import integer, numbers, text_of, whole
 from ._commands import COMMANDS, EXPRESSION, words_of
@@ -69,6 +69,32 @@ class Family(Sequence[Row]):
         if twice:
             raise ValueError(f"a column of the frame has the name {twice[0]}, too")
         return pandas.DataFrame({name: pandas.Series(column, dtype=_dtype(column)) for name, column in {**columns, **made}.items()})
+
+
+def family(
+    self: Any,
+    template: str,
+    *,
+    progress: Union[bool, Callable[[int], None]] = False,
+    workers: Optional[int] = None,
+    timeout: Optional[SupportsFloat] = None,
+    **names: Iterable[Any],
+) -> Family:
+    """The table of a line whose words have names, with a row for each choice of their values, which are numbers or lists; the last name
+    changes first. A name is a word of the line, in a number such as `3n`, `n+1`, `(n-1)` or `2*n*k`, or in an atom such as `s[n,1]`. A row whose
+    line is refused has the refusal. `progress`, `workers` and `timeout` are those of `batch`.
+    >>> from yorqanish import Calculator
+    >>> table = Calculator().family("coef 3n 2n n - 2n n - 2n n", n=range(1, 11))
+    >>> table.answers
+    [2, 3, 4, 5, 6, 7, 8, 9, 10, 11]
+    >>> table[1].line
+    'coef 6 4 2 - 4 2 - 4 2'
+    """
+    rows, lines = rows_of(template, names)
+    outcomes = list(self.batch(lines, progress=progress, workers=workers, timeout=timeout))
+    if [it.line for it in outcomes] != lines:
+        raise ValueError(f"template: {template!r} is not a line")
+    return Family(names, map(Row, rows, outcomes))
 
 
 def _dtype(column: List[Any]) -> Optional[str]:

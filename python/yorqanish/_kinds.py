@@ -51,10 +51,6 @@ def a_partition(label: Any) -> Numbers:
     return parts
 
 
-def exponents(label: Any) -> Numbers:
-    return without_zeros(numbers(label, "the label"))
-
-
 def a_permutation(label: Any) -> Numbers:
     letters = numbers(label, "the label")
     end = len(letters)
@@ -78,22 +74,8 @@ def inversions(perm: Numbers) -> int:
     return sum(a > b for i, a in enumerate(perm) for b in perm[i + 1 :])
 
 
-def by_inversions(label: Numbers) -> Any:
-    """By increasing number of inversions, then in increasing lexicographic order."""
-    return inversions(label), label
-
-
 def atom(letter: str, label: Numbers) -> str:
     return f"{letter}[{','.join(map(str, label))}]"
-
-
-def indexed(letter: str, label: Numbers) -> str:
-    return f"{letter}_{{{','.join(map(str, label)) or chr(92) + 'emptyset'}}}"
-
-
-def permuted(letter: str, label: Numbers) -> str:
-    """A Schubert polynomial. (Between the letters of a permutation LaTeX drops blanks, so that a letter over 9 needs commas.)"""
-    return f"\\mathfrak{{S}}_{{{('' if max(label) < 10 else ',').join(map(str, label))}}}"
 
 
 def powers_of(letter: str, label: Numbers, index: str = "{}", power: str = "^{}", between: str = "*") -> str:
@@ -103,29 +85,28 @@ def powers_of(letter: str, label: Numbers, index: str = "{}", power: str = "^{}"
 
 product = partial(powers_of, index="_{{{}}}", power="^{{{}}}", between=" ")
 
+
 def both(first: Kind, second: Kind, signs: Tuple[str, str] = ("*", " "), order: Tuple[int, int] = (0, 1), **more: Any) -> Kind:
     """The kind of labels that have two parts, which are written in this order, with a sign between them if both are there: in a line, and in LaTeX."""
+    parts = first, second
 
     def find(label: Any) -> Any:
-        if not isinstance(label, (tuple, list)):
-            raise TypeError(f"the label: {label!r} is not a pair")
-        if len(label) != 2:
-            raise ValueError(f"the label: {label!r} is not a pair")
+        if not isinstance(label, (tuple, list)) or len(label) != 2:
+            raise (ValueError if isinstance(label, (tuple, list)) else TypeError)(f"the label: {label!r} is not a pair")
         return first.find(label[0]), second.find(label[1])
 
-    def plain(letter: str, label: Any) -> str:
-        return signs[0].join(filter(None, ((first, second)[i].plain(letter, label[i]) for i in order)))
-
-    def latex(letter: str, label: Any) -> str:
-        return signs[1].join(filter(None, ((first, second)[i].latex(letter, label[i]) for i in order)))
+    def written(how: str) -> Callable[[str, Any], str]:
+        return lambda letter, label: signs[how == "latex"].join(filter(None, (getattr(parts[i], how)(letter, label[i]) for i in order)))
 
     by_both, sizes = lambda it: (first.order(it[0]), second.order(it[1])), lambda it: first.size(it[0]) + second.size(it[1])
-    return Kind(find, by_both, sizes, plain, latex, (first.one, second.one), **more)
+    return Kind(find, by_both, sizes, written("plain"), written("latex"), (first.one, second.one), **more)
 
 
-SYMMETRIC = Kind(a_partition, by_degree, sum, atom, indexed)
-MONOMIALS = Kind(exponents, by_degree, sum, powers_of, product)
-PERMUTATIONS = Kind(a_permutation, by_inversions, inversions, atom, permuted, (1,))
+SYMMETRIC = Kind(a_partition, by_degree, sum, atom, lambda letter, it: f"{letter}_{{{','.join(map(str, it)) or chr(92) + 'emptyset'}}}")
+MONOMIALS = Kind(lambda it: without_zeros(numbers(it, "the label")), by_degree, sum, powers_of, product)
+# (By increasing number of inversions, then in increasing lexicographic order. LaTeX drops blanks between letters, so that one over 9 needs commas.)
+IN_S: Callable[[str, Any], str] = lambda letter, it: f"\\mathfrak{{S}}_{{{('' if max(it) < 10 else ',').join(map(str, it))}}}"
+PERMUTATIONS = Kind(a_permutation, lambda it: (inversions(it), it), inversions, atom, IN_S, (1,))
 PAIRS = both(SYMMETRIC, SYMMETRIC, ("#", " \\otimes "))
 # (the exponent of q, whose degree depends on the ring)
 IN_Q = (lambda letter, it: powers_of("q", (it,), index="")), (lambda letter, it: product("q", (it,), index=""))

@@ -3,8 +3,7 @@ from __future__ import annotations
 
 import _thread
 import ctypes
-import sys
-from functools import lru_cache
+from contextlib import suppress
 from queue import Empty, SimpleQueue
 from typing import Iterator, List, Optional, Sequence, Tuple
 
@@ -27,6 +26,8 @@ class Library(Way):
     `__del__` makes in the middle of another one, do not disturb each other."""
 
     can_be_stopped = False
+    # The program, which lists tableaux.
+    beside: Optional[Way] = None
 
     def __init__(self, path: str) -> None:
         self.path = path
@@ -43,12 +44,10 @@ class Library(Way):
         # (another library of this name, which may hang, or another version, is found out in a thread of its own)
         got: SimpleQueue[Tuple[int, bytes]] = SimpleQueue()
         _thread.start_new_thread(lambda: got.put(self.run(b"batch", b"\n".join((*QUESTIONS, b"")))), ())
-        try:
-            is_right = got.get(timeout=PATIENCE) == (1, BREAK.join(QUESTIONS.values()))
-        except Empty:
-            is_right = False
-        if not is_right:
-            raise not_calc(path)
+        with suppress(Empty):
+            if got.get(timeout=PATIENCE) == (1, BREAK.join(QUESTIONS.values())):
+                return
+        raise not_calc(path)
 
     def run(self, line: bytes, given: bytes = b"") -> Tuple[int, bytes]:
         """The status of the line's command, and its text. The text is asked for once more if it is longer than the buffer."""
@@ -78,13 +77,10 @@ class Library(Way):
 
     def listed(self, line: bytes, seconds: Optional[float]) -> Iterator[str]:
         """The program lists one line after another; the library lists them all first, which is all there is on Windows."""
+        from ._search import IS_WINDOWS, program
+
         self.check()
-        return iter(self.blocks([line], seconds)[0].splitlines()) if sys.platform == "win32" else lister().listed(line, seconds)
-
-
-@lru_cache(None)
-def lister() -> Way:
-    """The program beside the library."""
-    from ._search import program
-
-    return program(None)
+        if IS_WINDOWS:
+            return iter(self.blocks([line], seconds)[0].splitlines())
+        Library.beside = Library.beside or program(None)
+        return Library.beside.listed(line, seconds)

@@ -1,5 +1,4 @@
-"""Lines: what is printed for them, and the value that it is; many of them, over one process or several, each of which has as many lines at a time as it
-does in a fiftieth of a second; and calls in threads."""
+"""Lines: what is printed for them, and the value that it is; many of them, over one process or several; and calls in threads."""
 from __future__ import annotations
 
 import os
@@ -9,14 +8,16 @@ import time
 from collections import deque
 from concurrent.futures import Future
 from contextlib import suppress
+from functools import partial
 from itertools import islice
 from queue import SimpleQueue
 from typing import Any, Callable, Deque, Dict, Generator, Generic, Iterable, Iterator, List, NamedTuple, Optional, Tuple, TypeVar
 
-from ._arguments import text_of, without_zeros
-from ._commands import Refusal, words_of
+from ._arguments import text_of
+from ._commands import Refusal, inner_of, words_of
 from ._elements import Expansion, Home, home_of, parent_of
-from ._tableaux import grid_of, pair_of, tableau_of
+from ._kinds import listed
+from ._tableaux import Grid, pair_of, tableau_of
 from ._ways import NO_COMMAND, Ended, NoCalculator, Way, sent, spawn
 
 # A window of lines is to take about this long, in seconds. One that takes longer than LATE is given up, and its lines are done one by one: there are
@@ -26,32 +27,22 @@ WINDOW, LATE, MOST_IN_WINDOW = 0.02, 0.12, 1024
 MOST_AHEAD, MOST_KEPT = 4096, 1 << 26
 # For so long, in seconds, lines are read before those that are there are sent.
 READING = 0.05
-
-
-def tableaux_of(text: str, words: List[str]) -> Any:
-    inner = words[words.index("/") + 1 :]
-    cut = inner.index("-from") if "-from" in inner else len(inner)
-    shape = without_zeros(tuple(map(int, inner[:cut])))
-    return [] if text == "0\n" else [tableau_of(line, shape) for line in text.splitlines()]
-
-
 # The answers that are no lists of terms.
 OTHERS: Dict[str, Callable[[str, List[str]], Any]] = {
     "coef": lambda text, words: int(text),
-    "tab": tableaux_of,
+    "tab": lambda text, words: [tableau_of(line, inner_of(words)) for line in text.splitlines() if line != "0"],
     "rsk": lambda text, words: pair_of(text),
     "unrsk": lambda text, words: tuple(map(int, text.split())),
     "rect": lambda text, words: tableau_of(text.rstrip("\n")),
-    "growth": lambda text, words: grid_of(text),
+    "growth": lambda text, words: Grid(tuple(map(listed, line.split(" "))) for line in text.splitlines()),
 }
 
 
 def answer_of(words: List[Any], text: str, home: Home) -> Any:
     """The answer to the words of a line: what the command's method answers, a list for `tab`, and the printed text for `-m`."""
-    if "-m" in words[1:4]:
-        return text.rstrip("\n")
-    read = OTHERS.get(words[0])
-    return read(text, words) if read else Expansion._read(text, parent_of(home, words))
+    if words[0] in OTHERS:
+        return OTHERS[words[0]](text, words)
+    return text.rstrip("\n") if "-m" in words[1:4] else Expansion._read(text, parent_of(home, words))
 
 
 class Block(NamedTuple):
@@ -94,6 +85,17 @@ class Desk(NamedTuple):
             if text[:1] == "!":
                 raise Refusal.of(text, line)
         return texts
+
+    def listed(self, line: str) -> Iterator[str]:
+        """The lines of a list, each as soon as it is there and within the time."""
+        try:
+            for text in self.way.listed(line.encode(), self.seconds):
+                if text[:1] == "!":
+                    raise Refusal.of(f"{text}\n", line)
+                if text != "0":
+                    yield text
+        except TimeoutError:
+            raise self.late(line) from None
 
     def one(self, line: str) -> Block:
         """The outcome of a line."""
@@ -146,7 +148,7 @@ class Lanes:
     window. They read nothing that is the user's: that does who asks for the outcomes, who is also the only one to work if there is one process."""
 
     def __init__(self, desk: Desk, count: int) -> None:
-        self._desk, self._sizes, self._is_ended, self._late = desk, [1] * count, False, LATE
+        self._desk, self._sizes, self._is_only, self._is_ended, self._late = desk, [1] * count, count == 1, False, LATE
         # (the lines of windows that were given up, and all others; what a thread that finds none waits for)
         self._alone: Deque[Line] = deque()
         self._waiting: Deque[Line] = deque()
@@ -182,9 +184,9 @@ class Lanes:
 
     def _tried(self, window: List[Line]) -> int:
         """Does lines, or gives them up; how many are to be done next."""
-        began, is_only = time.monotonic(), len(self._sizes) == 1
+        began = time.monotonic()
         try:
-            blocks = self._desk.all([line for _, line in window], None if is_only or len(window) == 1 else self._late)
+            blocks = self._desk.all([line for _, line in window], None if self._is_only or len(window) == 1 else self._late)
         except TimeoutError:
             self._late *= 2
             self._alone.extend(window)
@@ -192,24 +194,23 @@ class Lanes:
             return 1
         self._done.put([(number, block) for (number, _), block in zip(window, blocks)])
         self._late = max(LATE, 0.9 * self._late)
-        count = 2 * len(window) if self._desk.seconds is None and (is_only or self._desk.way.can_be_stopped) else 1
+        count = 2 * len(window) if self._desk.seconds is None and (self._is_only or self._desk.way.can_be_stopped) else 1
         return max(1, min(count, int(len(window) * WINDOW / max(time.monotonic() - began, 1e-9)), MOST_IN_WINDOW))
 
     def outcomes(self, source: Source) -> Iterator[Outcome]:
         """The outcomes in the order of the lines."""
         kept: Dict[int, Outcome] = {}
         read = given = at = size = 0
-        is_only = len(self._sizes) == 1
         try:
-            for lane in range(0 if is_only else len(self._sizes)):
+            for lane in range(0 if self._is_only else len(self._sizes)):
                 spawn(self._work, lane)
             while True:
                 while at in kept:
                     block = kept.pop(at)
                     size, at = size - (len(block.text) if block else 0), at + 1
                     yield block
-                wanted = min(MOST_AHEAD - (read - at), (1 if is_only else 2) * sum(self._sizes) - given) if size < MOST_KEPT else 0
-                is_reading = wanted > 0 and not source.is_at_end and not (is_only and given)
+                wanted = min(MOST_AHEAD - (read - at), (1 if self._is_only else 2) * sum(self._sizes) - given) if size < MOST_KEPT else 0
+                is_reading = wanted > 0 and not source.is_at_end and not (self._is_only and given)
                 if is_reading:
                     for line in source.take(wanted):
                         if sent(line) is None:
@@ -221,7 +222,7 @@ class Lanes:
                     self._call()
                 elif not given:
                     break
-                elif is_only:
+                elif self._is_only:
                     self._sizes[0] = self._tried(self._taken(given))
                 while not is_reading or not self._done.empty():
                     done, is_reading = self._done.get(), True
@@ -233,7 +234,7 @@ class Lanes:
                 raise source.error
         finally:
             self._is_ended = True
-            if not is_only:
+            if not self._is_only:
                 self._desk.way.close()
             self._call()
 
@@ -287,15 +288,14 @@ class Task(Future, Generic[Result]):  # type: ignore[type-arg]
         spawn(self._work, call)
 
     def _work(self, call: Callable[[], Result]) -> None:
-        result, error = None, None  # type: Any, Optional[BaseException]
         with FREE.setdefault(os.getpid(), threading.Semaphore(os.cpu_count() or 1)):
             try:
-                result = None if self.cancelled() else call()
-            except BaseException as raised:
-                error = raised
+                tell = partial(self.set_result, None if self.cancelled() else call())
+            except BaseException as error:
+                tell = partial(self.set_exception, error)
         # (it is not said before that it runs: such a Future is not cancelled)
         if self.set_running_or_notify_cancel():
-            self.set_result(result) if error is None else self.set_exception(error)
+            tell()
 
     def cancel(self) -> bool:
         """Stops the command, unless it is done."""

@@ -13,20 +13,19 @@ import sys
 import threading
 import time
 import weakref
-from contextlib import contextmanager, suppress
+from contextlib import ExitStack, contextmanager, suppress
 from functools import partial
 from io import FileIO
 from queue import Empty, SimpleQueue
-from typing import Any, Callable, Dict, Iterable, Iterator, List, Optional, Sequence, Tuple
+from typing import Any, Callable, ContextManager, Dict, Iterable, Iterator, List, Optional, Sequence, Tuple, cast
 
 from ._ways import BREAK, END, ENDED, LAST, NO_MEMORY, PATIENCE, QUESTIONS, Ended, NoCalculator, Way, not_calc, spawn
 
 # The processes that this one has started, each with whoever reads from it. As its standard error a process has the writing end of the pipe that ties it
 # to this one. A process made by fork closes its copies of their pipes and forgets them.
 STARTED: Dict[subprocess.Popen[bytes], weakref.ref[Batch]] = {}
-# What a thread of this package does, which no signal disturbs: to start and to end processes, and to wait for them. An interrupt in one of these could
-# leave a process that nobody knows, or hold a lock of `subprocess` or `threading` for ever. What asks for it is one step, wherever the collector
-# or an interrupted call does that: a reader that is gone leaves its reference here, which calls nothing.
+# What a thread of this package does, which no signal disturbs: to start and to end processes, and to wait for them. (An interrupt could leave a process
+# that nobody knows, or hold a lock for ever.) To ask for it is one step, wherever the collector does that: a reader that is gone leaves its reference.
 ASKED: SimpleQueue[Any] = SimpleQueue()
 # The threads that do it: at most one, but for moments.
 SERVING: List[int] = []
@@ -35,26 +34,21 @@ STARTS = threading.RLock()
 IS_ENDING = False
 # A group of its own; before Python 3.11 that takes a session of its own.
 GROUP: Dict[str, Any] = {"process_group": 0} if sys.version_info >= (3, 11) else {"start_new_session": True}
-# The longest wait at a time, in seconds: the system counts milliseconds in a machine word.
-LONGEST_WAIT = 86400.0
-# How often it is asked, in seconds, whether a process that was ended has gone.
-GOING = 0.005
+# The longest wait at a time, since the system counts milliseconds in a machine word, and how often it is asked whether a process has gone: in seconds.
+LONGEST_WAIT, GOING = 86400.0, 0.005
 
 
 @contextmanager
 def over_two() -> Iterator[None]:
     """What is opened meanwhile has no number of a standard file, also if this process has none there."""
-    taken = [os.open(os.devnull, os.O_RDONLY) for _ in range(3)]
-    try:
+    with ExitStack() as taken:
+        for _ in range(3):
+            taken.callback(os.close, os.open(os.devnull, os.O_RDONLY))
         yield
-    finally:
-        for it in taken:
-            os.close(it)
 
 
 class File:
-    """A file that is kept open: what is started of it later is what was tried first, also if another file has its name by then. Whether it
-    was written over is seen by its content."""
+    """A file that is kept open: what is started of it later was tried first, whatever has its name. That it was written over is seen by its content."""
 
     def __init__(self, path: str, place: str) -> None:
         with over_two():
@@ -97,14 +91,11 @@ def start(path: str, file: Optional[File], reader: weakref.ref[Batch]) -> subpro
             watched, kept = map(FileIO, os.pipe(), "rw")
             # (the reading end stays open in the program, and in it alone)
             how: Dict[str, Any] = {"stderr": subprocess.DEVNULL, "pass_fds": [watched.fileno()], **GROUP}
-            try:
+            with watched, ExitStack() as on_error:
+                on_error.callback(kept.close)
                 process = subprocess.Popen(["calc", "batch"], executable=place, bufsize=0, stdin=subprocess.PIPE, stdout=subprocess.PIPE, **how)
                 tie(process, watched.fileno())
-            except BaseException:
-                kept.close()
-                raise
-            finally:
-                watched.close()
+                on_error.pop_all()
             process.stderr, STARTED[process] = kept, reader
             return process
     except (OSError, RuntimeError) as error:
@@ -156,8 +147,7 @@ def sweep() -> bool:
 
 
 def serve() -> None:
-    """Has the thread that does what is asked for. (What it is to do is asked for before, so that one that is about to end is not waited for in
-    vain.)"""
+    """Has the thread that does what is asked for. (It is asked before, so that one that is about to end is not waited for in vain.)"""
     if not SERVING and not IS_ENDING:
         try:
             spawn(work)
@@ -249,9 +239,8 @@ def input_of(lines: Iterable[bytes]) -> memoryview:
     return memoryview(b"\n".join((*lines, LAST, b"")))
 
 
-class Batch:
-    """A running `calc batch`, whose answers are read as they come, by the process that has started it. It ends with the last reference to this,
-    and at the end of Python."""
+class Batch(ContextManager["Batch"]):
+    """A running `calc batch`, which is read by who has started it. It ends with the last reference to this, and at the end of Python."""
 
     # Whether it is to end, and the way that has it run a command.
     is_done = False
@@ -268,30 +257,14 @@ class Batch:
         for it in (self._coming, self._both):
             it.register(self.out, select.POLLIN)
         self._both.register(self.into, select.POLLOUT)
-        self._try()
-
-    def _try(self) -> None:
-        """The first exchange, by which another program of this name is found out, or another version."""
-        wanted, got, data, until = BREAK.join((*QUESTIONS.values(), END)), b"", input_of(QUESTIONS), deadline_in(PATIENCE)
+        # (by the first exchange another program of this name is found out, or another version)
         try:
-            while wanted.startswith(got):
-                if got == wanted:
-                    return
-                came, data = self._read(data, until)
-                got += came
-        except TimeoutError:
-            pass
-        except Ended:
-            if (self.process.returncode or 0) < 0:
-                # (somebody has killed it: that says nothing of the program)
-                raise
-        finally:
-            if got != wanted:
-                self.end()
-        raise not_calc(self.path)
-
-    def __enter__(self) -> Batch:
-        return self
+            self.exchange(list(QUESTIONS), PATIENCE, BREAK + BREAK.join((*QUESTIONS.values(), END)))
+        except BaseException as error:
+            self.end()
+            # (if somebody has killed it, that says nothing of the program)
+            is_other = isinstance(error, TimeoutError) or isinstance(error, Ended) and (self.process.returncode or 0) >= 0
+            raise not_calc(self.path) if is_other else error from None
 
     def __exit__(self, kind: Any, *error: Any) -> None:
         """After a command it waits for another one, or ends, if the command was given up."""
@@ -349,16 +322,18 @@ class Batch:
             return Ended(f"{self.path} has closed its output")
         return MemoryError("calc was refused memory") if status == NO_MEMORY else Ended(f"{self.path} ended with status {status}")
 
-    def exchange(self, lines: Sequence[bytes], seconds: Optional[float]) -> List[str]:
-        """The blocks of lines."""
+    def exchange(self, lines: Sequence[bytes], seconds: Optional[float], known: bytes = b"") -> List[str]:
+        """The blocks of lines. What is known comes first of all, without a break before it; if something else comes, it is not waited for."""
         until = deadline_in(seconds)
         came, data = self._read(input_of(lines), until)
-        got = bytearray(came)
+        got = bytearray(BREAK + came if known else came)
         while not (got.endswith(ENDED) and got.count(BREAK) > len(lines)):
+            if known and not known.startswith(got):
+                raise not_calc(self.path)
             came, data = self._read(data, until)
             got += came
-        first, *texts, _ = got.decode("ascii").split("--\n")
-        if first or len(texts) != len(lines):
+        first, *texts, _ = got.decode("ascii", "replace").split("--\n")
+        if first or len(texts) != len(lines) or known and got != known:
             raise not_calc(self.path)
         return texts
 
@@ -380,27 +355,18 @@ class Batch:
             raise not_calc(self.path)
 
 
-def tried(first: Batch) -> Optional[File]:
-    """The file of a process that was tried: of the program, also where a script was started whose place it has taken. There is none if the
-    process is a shell, or something else that runs the program."""
-    place = f"/proc/{first.process.pid}"
-    try:
-        with open(f"{place}/cmdline", "rb") as words:
-            return File(first.path, f"{place}/exe") if words.read().split(b"\0")[1:] == [b"batch", b""] else None
-    except OSError:
-        return None
-
-
 class Program(Way):
-    """The program. Each call has a process to itself, of the file that was tried first, which later calls go on with; one that is interrupted, or
-    out of time, is ended."""
+    """The program. Each call has a process to itself, of the file that was tried first; one that is interrupted, or out of time, is ended."""
 
     can_be_stopped = True
 
     def __init__(self, path: str) -> None:
         self.path = os.path.abspath(path)
-        self._idle = [Batch(self.path, None)]
-        self._file = tried(self._idle[0])
+        self._idle, self._file = [Batch(self.path, None)], cast("Optional[File]", None)
+        # (a script may have given its place to the program; if the process is a shell, or something else that runs it, there is no file)
+        with suppress(OSError), open(f"/proc/{self._idle[0].process.pid}/cmdline", "rb") as words:
+            if words.read().split(b"\0")[1:] == [b"batch", b""]:
+                self._file = File(self.path, f"/proc/{self._idle[0].process.pid}/exe")
         self.digest = self._file.digest if self._file else None
 
     def _taken(self) -> Batch:

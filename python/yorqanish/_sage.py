@@ -2,10 +2,7 @@
 from __future__ import annotations
 
 import sys
-from typing import TYPE_CHECKING, Any, Dict, Optional
-
-if TYPE_CHECKING:
-    from ._elements import Expansion
+from typing import Any, Dict, Optional
 
 # Sage's names of the bases.
 BASES = {"Schur": "s", "powersum": "p", "homogeneous": "h", "elementary": "e", "monomial": "m"}
@@ -13,7 +10,7 @@ BASES = {"Schur": "s", "powersum": "p", "homogeneous": "h", "elementary": "e", "
 VARIABLES = 16
 
 
-def element_of(expansion: Expansion[Any, Any], ring: Any) -> Any:
+def element_of(expansion: Any, ring: Any) -> Any:
     """The element of Sage that an element is, over this ring or over the rational numbers."""
     from sage import all as sage  # type: ignore
 
@@ -47,7 +44,7 @@ def is_element(value: Any) -> bool:
     return structure is not None and isinstance(value, structure.Element)
 
 
-def is_same(expansion: Expansion[Any, Any], value: Any) -> bool:
+def is_same(expansion: Any, value: Any) -> bool:
     """Whether an element is this one of Sage, as Sage compares elements: of one function also in two bases."""
     try:
         ring = value.parent().base_ring() if expansion.parent.name in BASES.values() else None

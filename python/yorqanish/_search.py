@@ -6,16 +6,14 @@ import shutil
 import subprocess
 import sys
 from itertools import product
-from typing import TYPE_CHECKING, List, Optional, Union
+from typing import List, Optional, Union
 
-from ._ways import NoCalculator
+from ._ways import NoCalculator, Way
 
 # (Windows has no such pipes and processes: there the library answers)
 IS_WINDOWS = sys.platform == "win32"
-if TYPE_CHECKING or not IS_WINDOWS:
+if not IS_WINDOWS:
     from ._program import Program
-if TYPE_CHECKING:
-    from ._library import Library
 
 BESIDE = os.path.dirname(os.path.abspath(__file__))
 # In a checkout or an archive, if the package is used there and not installed: the script that says which files are those of its sources.
@@ -45,7 +43,7 @@ def chosen(given: Optional[str], variable: str, name: str) -> Optional[str]:
     return os.path.abspath(path) if path else near(name)
 
 
-def program(given: Optional[str]) -> Program:
+def program(given: Optional[str]) -> Way:
     """The program at the path that is given; else that of YORQANISH_CALC; else in this package; else the first on the PATH that answers."""
     path = chosen(given, "YORQANISH_CALC", PROGRAM)
     if path:
@@ -62,7 +60,7 @@ def program(given: Optional[str]) -> Program:
     raise NoCalculator("; ".join([*refused, "the program calc is not found: give its path as program=, or in YORQANISH_CALC"]))
 
 
-def library(given: Union[str, bool, None]) -> Library:
+def library(given: Union[str, bool, None]) -> Way:
     """The library at the path that is given; else that of YORQANISH_LIBRARY; else in this package; else where the system looks."""
     # (ctypes takes time, and is not to be had in each subinterpreter)
     from ._library import Library

@@ -1,11 +1,12 @@
 """Tableaux, pairs of them, and growth grids; and pictures as SVG, which a notebook shows."""
 from __future__ import annotations
 
+import re
 from types import GeneratorType
-from typing import Any, Iterable, NamedTuple, Optional, Sequence, Tuple
+from typing import Any, Iterable, NamedTuple, Optional, Tuple
 
 from ._arguments import Fixed, Numbers, Row, Rows, Shape, partition, skew_tableau, without_zeros
-from ._kinds import a_partition, a_permutation, listed
+from ._kinds import a_partition, a_permutation
 
 # The side of a box, and that of a box of a small shape.
 SIDE, SMALL = 24, 6
@@ -56,8 +57,7 @@ class Grid(Tuple[Tuple[Numbers, ...], ...]):
         for i, row in enumerate(self):
             for j, shape in enumerate(row):
                 parts.append(square(side * j, side * i, side, ' stroke="lightgray"'))
-                places = ((a, b) for a, part in enumerate(shape, 1) for b in range(1, part + 1))
-                parts += [square(side * j + SMALL * b, side * i + SMALL * a, SMALL) for a, b in places]
+                parts += [square(side * j + SMALL * b, side * i + SMALL * a, SMALL) for a, part in enumerate(shape, 1) for b in range(1, part + 1)]
         return Picture(parts, side * max(map(len, self), default=0), side * len(self)).svg
 
 
@@ -71,8 +71,7 @@ class Tableau(Fixed, Tuple[Row, ...]):
     >>> skew, skew.inner, skew == Tableau([[1], [12]], inner=[1])
     (Tableau(((None, 1), (12,))), (1,), True)
     >>> print(skew, skew.latex("young"))
-    1 / 12 \\young(:1,{12})
-    """
+    1 / 12 \\young(:1,{12})"""
 
     __slots__ = ()
 
@@ -122,11 +121,11 @@ class Tableau(Fixed, Tuple[Row, ...]):
         lines = (" & ".join("" if it is None else f"\\boxed{{{it}}}" for it in row) for row in self)
         return f"\\begin{{array}}{{{'c' * max(map(len, self))}}} " + " \\\\ ".join(lines) + " \\end{array}"
 
-    def _repr_latex_(self) -> str:
-        return f"${self.latex('array')}$"
-
     def _latex_(self) -> str:
         return self.latex("array")
+
+    def _repr_latex_(self) -> str:
+        return f"${self._latex_()}$"
 
 
 class Pair(NamedTuple):
@@ -143,11 +142,11 @@ class Pair(NamedTuple):
         """The pair as LaTeX, in the styles of `Tableau.latex`."""
         return f"\\left({self.insertion.latex(style)},\\ {self.recording.latex(style)}\\right)"
 
-    def _repr_latex_(self) -> str:
-        return f"${self.latex('array')}$"
-
     def _latex_(self) -> str:
         return self.latex("array")
+
+    def _repr_latex_(self) -> str:
+        return f"${self._latex_()}$"
 
 
 def tableau_of(line: str, inner: Numbers = ()) -> Tableau:
@@ -158,11 +157,7 @@ def tableau_of(line: str, inner: Numbers = ()) -> Tableau:
 
 def pair_of(text: str) -> Pair:
     """The pair that `rsk` prints."""
-    first, second = text.splitlines()
-    if first[:2] != "P " or second[:2] != "Q ":
+    found = re.fullmatch("P (.*)\nQ (.*)\n", text)
+    if not found:
         raise ValueError(f"{text!r} is not a pair of tableaux")
-    return Pair(tableau_of(first[2:]), tableau_of(second[2:]))
-
-
-def grid_of(text: str) -> Grid:
-    return Grid(tuple(map(listed, line.split(" "))) for line in text.splitlines())
+    return Pair(*map(tableau_of, found.groups()))

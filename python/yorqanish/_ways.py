@@ -40,10 +40,8 @@ LAST, END, BREAK, ENDED = b"rsk", b"P .\nQ .\n", b"--\n", b"--\nP .\nQ .\n"
 
 # What is sent for a line that a batch passes over, where it is to be refused: it is refused at its beginning.
 NO_COMMAND = b"!"
-# A line of a batch has at most this many bytes.
-LONGEST = 4096
-# How long the first answers may take, in seconds.
-PATIENCE = 20.0
+# A line of a batch has at most this many bytes; the first answers may take so many seconds.
+LONGEST, PATIENCE = 4096, 20.0
 
 
 class NoCalculator(RuntimeError):
@@ -80,7 +78,7 @@ class Way:
         return self._is_closed or self._whole is not None and self._whole._is_closed
 
     def check(self) -> None:
-        if self.is_over():
+        if (self._is_closed or self._whole) and self.is_over():
             raise NoCalculator("the calculator is closed")
 
     def close(self) -> None:
@@ -100,13 +98,10 @@ def spawn(task: Callable[..., object], *arguments: Any) -> None:
 
 
 def sent(line: str) -> Optional[bytes]:
-    """The line of a batch that is sent for a line, or nothing if a batch passes over it, since it has no word or is a comment.
-
-    A line feed at its end is dropped, with or without a carriage return before it. One within it, and a zero byte, are sent as another byte
-    that is in no word of a command, and is refused at its place.
+    """The line of a batch that is sent for a line, or nothing if a batch passes over it, since it has no word or is a comment. A line feed at its
+    end is dropped, with or without a carriage return before it. One within it, and a zero byte, are sent as a byte that is refused at its place.
     >>> sent("mult 1 - 1\\n"), sent("# a comment"), sent(" "), sent("mult 1\\n- 1")
-    (b'mult 1 - 1', None, None, b'mult 1\\x01- 1')
-    """
+    (b'mult 1 - 1', None, None, b'mult 1\\x01- 1')"""
     if type(line) is str and line[:1].isalpha() and line.isascii() and line.isprintable():
         return line.encode()
     if not isinstance(line, str):

@@ -3,6 +3,7 @@ in memory meanwhile."""
 import asyncio
 import os
 import pickle
+import re
 import resource
 import signal
 import subprocess
@@ -110,7 +111,8 @@ def test_help_is_quoted_once():
     import pydoc
 
     told = pydoc.render_doc(Calculator, renderer=pydoc.plaintext)
-    assert "'\"" not in told and "mult(self, *shapes" in told, [it for it in told.splitlines() if "'\"" in it][:3]
+    # (from Python 3.13 on a long list of parameters is shown on several lines)
+    assert "'\"" not in told and re.search(r"mult\([\s|]*self,[\s|]*\*shapes", told), [it for it in told.splitlines() if "'\"" in it][:3]
 
 
 # ---- pickled methods
