@@ -1,6 +1,7 @@
 """The commands of calc, as check/table reads them: their words, partitions, permutations, tableaux and expressions. An expression such as
 2*s[2,1]-1/3*h[3] is read as a tree, with the names of `Phrase` of the definitions: ("numeral", "2"), ("ratio", "1", "3"),
 ("label", ("schurs",), ["2", "1"]), ("brackets", e), ("minus_first", e), ("operation", ("plus",), e, f)."""
+import math
 import re
 from fractions import Fraction
 
@@ -14,7 +15,7 @@ class Unreadable(Exception):
 
 
 class Undecided(Exception):
-    """The check would take too long here."""
+    """What would take too long, or is not there, or cannot be read or computed; the text says what."""
 
 
 class Wrong(Exception):
@@ -35,26 +36,26 @@ def numbers(words):
     return tuple(map(int, words))
 
 
-def without_last(number, items):
-    """The list without this number at its end."""
-    while items and items[-1] == number:
-        items = items[:-1]
-    return items
+def without_zeros(items):
+    """The list without the zeros at its end."""
+    return items[:max((at for at, it in enumerate(items, 1) if it), default=0)]
 
 
 def partition(items):
     if any(a < b for a, b in zip(items, items[1:])):
         raise Unreadable(f"{shown(items)} is no partition")
-    return without_last(0, items)
+    return without_zeros(items)
 
 
 def permutation(items):
     """A permutation without fixed letters at its end, but with the letter 1."""
     if sorted(items) != list(range(1, len(items) + 1)) or not items:
         raise Unreadable(f"{shown(items)} is no permutation")
-    while len(items) > 1 and items[-1] == len(items):
-        items = items[:-1]
-    return items
+    return items[:max((at for at, it in enumerate(items, 1) if it != at), default=1)]
+
+
+def inversions(items):
+    return sum(a > b for i, a in enumerate(items) for b in items[i + 1:])
 
 
 def split(words, mark):
@@ -72,44 +73,36 @@ def rows_of(words, is_skew=True):
     return rows if parts != [["."]] else ()
 
 
-class Reader:
-    """Reads a text; ValueError says where it is no expression."""
+def tree_of(text):
+    """The tree of an expression; ValueError says where the text is none."""
+    words = WORD.findall(text)[::-1]
 
-    def __init__(self, text):
-        self.text, self.words = text, WORD.findall(text)[::-1]
+    def fail():
+        raise ValueError(f"the expression {text} cannot be read {len(''.join(words).encode())} bytes before its end")
 
-    def whole(self):
-        found = self.sum()
-        return found if not self.words else self.fail()
-
-    def fail(self):
-        raise ValueError(f"the expression {self.text} cannot be read {len(''.join(self.words).encode())} bytes before its end")
-
-    def has(self, signs):
-        """The next word if it is one of these signs, which is then taken."""
-        return self.words.pop() if self.words and self.words[-1] in signs else ""
-
-    def sum(self):
-        return self.joined("+-", self.product, ("minus_first", self.product()) if self.has("-") else self.product())
-
-    def product(self):
-        return self.joined("*", self.factor, self.factor())
-
-    def joined(self, signs, read, found):
-        while sign := self.has(signs):
-            found = ("operation", (SIGNS[sign],), found, read())
+    def joined(signs, read, found):
+        while words and words[-1] in signs:
+            found = "operation", (SIGNS[words.pop()],), found, read()
         return found
 
-    def factor(self):
-        if self.has("("):
-            found = ("brackets", self.sum())
-            return found if self.has(")") else self.fail()
-        if not self.words or len(self.words[-1]) == 1 and self.words[-1] not in "0123456789":
-            self.fail()
-        word = self.words.pop()
+    def sum_here():
+        is_minus = words[-1:] == ["-"] and words.pop()
+        return joined("+-", product, ("minus_first", product()) if is_minus else product())
+
+    def product():
+        return joined("*", factor, factor())
+
+    def factor():
+        word = words[-1] if words and re.match(r"[(0-9]|.\[", words[-1]) else fail()
+        words.pop()
+        if word == "(":
+            found = "brackets", sum_here()
+            return found if words[-1:] == [")"] and words.pop() else fail()
         if word[-1] == "]":
             return "label", (BASES[word[0]],), re.findall("[0-9]+", word)
         return ("ratio", *word.split("/")) if "/" in word else ("numeral", word)
+    found = sum_here()
+    return fail() if words else found
 
 
 def fold(tree, of_number, of_label, signs):
@@ -131,7 +124,7 @@ def degree(tree):
 
 def expression(words):
     try:
-        tree = Reader(words[0]).whole()
+        tree = tree_of(words[0])
         degree(tree)
         return tree
     except (ValueError, ZeroDivisionError) as why:
@@ -179,9 +172,9 @@ class Claim:
     def degree(self):
         """The degree of both sides, or a bound for it."""
         if self.name in ("expand", "plethysm"):
-            return degree(self.data[0]) * (degree(self.data[1]) if self.name == "plethysm" else 1)
+            return math.prod(map(degree, self.data))
         if self.name in ("schubert", "schubmult", "dschubmult"):
             return sum(len(it) ** 2 for it in self.data)
         if self.name == "stanley":
-            return sum(a > b for i, a in enumerate(self.data[0]) for b in self.data[0][i + 1:])
+            return inversions(self.data[0])
         return sum(self.data[0]) - sum(self.data[1]) if self.name == "skew" else sum(map(sum, self.data))

@@ -36,21 +36,16 @@ def modulo(value, modulus):
     return value.numerator % modulus if value.denominator == 1 else value.numerator * pow(value.denominator, -1, modulus) % modulus
 
 
-def numbers(modulus):
-    """Random numbers by their indices."""
-    return defaultdict(lambda: RANDOM.randrange(modulus))
-
-
 class Point:
     """A point at which symmetric functions are evaluated: the values of its power sums p_1, p_2, .. . If these are random, what holds there holds
     in every number of variables."""
 
     def __init__(self, modulus, power):
-        self.modulus, self.monomials = modulus, {(): 1}
+        self.modulus = modulus
         self.h, self.e = functools.partial(self.newton, [1], 1), functools.partial(self.newton, [1], -1)
         self.p = functools.lru_cache(None)(lambda k: power(k) % modulus)
         self.row = functools.lru_cache(None)(lambda l, columns: [self.h(l + c) for c in columns])
-        self.reduced = functools.lru_cache(500)(self.reduce)
+        self.reduced, self.augmented = functools.lru_cache(500)(self.reduce), functools.lru_cache(None)(self.sum_of_monomials)
 
     def newton(self, found, sign, k):
         """The value of h_k or e_k by Newton's identities; those before it are found."""
@@ -87,15 +82,11 @@ class Point:
         last = [[sum(map(operator.mul, self.row(l, columns), it)) for it in vectors] for l in rows[-2:]]
         return value * (last[0][0] * last[1][1] - last[0][1] * last[1][0] if last[1:] else last[0][0]) % self.modulus
 
-    def augmented(self, parts):
+    def sum_of_monomials(self, parts):
         """The sum over different variables of x_1^a·x_2^b·.. for the parts a, b, .. ."""
-        if parts not in self.monomials:
-            *front, last = parts
-            value = self.p(last) * self.augmented(tuple(front))
-            for i, a in enumerate(front):
-                value -= self.augmented(tuple(sorted([*front[:i], *front[i + 1:], a + last], reverse=True)))
-            self.monomials[parts] = value % self.modulus
-        return self.monomials[parts]
+        *front, last = parts or (0,)
+        others = (self.augmented(tuple(sorted([*front[:i], *front[i + 1:], a + last], reverse=True))) for i, a in enumerate(front))
+        return (self.p(last) * self.augmented(tuple(front)) - sum(others)) % self.modulus if parts else 1
 
     def m(self, parts):
         repeated = math.prod(map(math.factorial, Counter(parts).values()))
@@ -153,7 +144,7 @@ def schuberts(terms, weight, modulus, rows=None):
 def sides(claim, terms, modulus):
     """Both sides of a claim at a random point."""
     k, data, basis = claim.variables, claim.data, claim.basis
-    x, y = numbers(modulus), numbers(modulus)
+    x, y = (defaultdict(lambda: RANDOM.randrange(modulus)) for _ in "xy")  # (random numbers by their indices)
     at = point_at(modulus, [x[i] for i in range(1, k + 1)]) if k else Point(modulus, x.__getitem__)
     other, single, double = Point(modulus, y.__getitem__), lambda i, g: x[i], lambda i, g: x[i] - y[g - i + 1]
     power = lambda numbers, exponents: math.prod(pow(numbers[i], a, modulus) for i, a in enumerate(exponents, 1))

@@ -4,7 +4,7 @@ import itertools
 import re
 from collections import Counter
 
-from claims import Undecided, Unreadable, Wrong, numbers, partition, rows_of, shown, without_last
+from claims import Undecided, Unreadable, Wrong, numbers, partition, rows_of, shown, without_zeros
 
 MOST_STEPS, MOST_LETTERS = 500000, 40
 
@@ -34,7 +34,7 @@ def tableaux(content, most):
     for shape, count in tableaux(content[:-1], most).items() if content else ():
         for lower in itertools.product(*(range(b, a + 1) for a, b in zip(shape, (*shape[1:], 0)))):
             first = sum(shape) + content[-1] - sum(lower)
-            larger = without_last(0, (first, *lower))
+            larger = without_zeros((first, *lower))
             if first >= sum(shape[:1]) and (most is None or len(larger) <= len(most) and all(a <= b for a, b in zip(larger, most))):
                 found[larger] += count
         if len(found) > MOST_STEPS // 20:
@@ -61,28 +61,24 @@ def count_lattice_tableaux(outer, inner):
 
 def greene(word):
     """The shape of a word: the first k rows have as many cells as k weakly increasing subsequences without a common place can have places
-    (Greene). They are found as flows of greatest gain in the graph of the places."""
-    n = len(word)
+    (Greene). They are found as flows of greatest gain in the graph of the places: each i has an edge from 2i to 2i + 1, whose gain is 1."""
+    n, shape = len(word), []
     if n > MOST_LETTERS:
         raise Undecided(f"words of more than {MOST_LETTERS} letters are not checked")
-    source, sink, edges, shape = 2 * n, 2 * n + 1, [], []
+    edges = {(2 * i + 1, 2 * j): 0 for i in range(n) for j in range(i + 1, n) if word[i] <= word[j]}
     for i in range(n):
-        edges += [[source, 2 * i, 1, 0], [2 * i, 2 * i + 1, 1, 1], [2 * i + 1, sink, 1, 0]]
-        edges += [[2 * i + 1, 2 * j, 1, 0] for j in range(i + 1, n) if word[i] <= word[j]]
+        edges.update({("start", 2 * i): 0, (2 * i, 2 * i + 1): 1, (2 * i + 1, "end"): 0})
     while sum(shape) < n:
-        gains, came, changed = {source: 0}, {}, True
-        while changed:
-            changed = False
-            for edge in edges:
-                start, end, room, gain = edge
-                for one, other, room, gain in ((start, end, room, gain), (end, start, 1 - room, -gain)):
-                    if room and one in gains and gains[one] + gain > gains.get(other, -1 - n):
-                        gains[other], came[other], changed = gains[one] + gain, (one, edge), True
-        at = sink
-        while at != source:
-            at, edge = came[at]
-            edge[2] = 1 - edge[2]
-        shape.append(gains[sink])
+        gains, came, better = {"start": 0}, {}, True
+        while better:
+            better = [(one, other) for (one, other), gain in edges.items() if one in gains and gains[one] + gain > gains.get(other, -n)]
+            gains.update({other: gains[one] + edges[one, other] for one, other in better})
+            came.update({other: one for one, other in better})
+        at = "end"
+        while at != "start":
+            one, at = at, came[at]
+            edges[one, at] = -edges.pop((at, one))  # (an edge that is taken can be given back)
+        shape.append(gains["end"])
     return tuple(shape)
 
 
@@ -145,19 +141,15 @@ def check_text(claim, text):
 
 def check_tableaux(outer, inner, text, last):
     """Checks the lines of `tab`: lattice tableaux, in their order, and their number."""
-    readings = []
+    readings, starts = [], inner + (0,) * len(outer)
     for at, line in enumerate([] if text == "0\n" else text.rstrip("\n").split("\n"), 1):
         rows = rows_of(line.split())
         if not is_tableau(rows, outer, inner):
             raise Wrong(f"line {at} is no tableau of the shape")
-        starts = inner + (0,) * len(rows)
-        cells = sorted((-starts[i] - j, i, a) for i, row in enumerate(rows) for j, a in enumerate(row))
-        counts = Counter({0: len(cells)})
-        for _, _, a in cells:
-            counts[a] += 1
-            if counts[a] > counts[a - 1]:
-                raise Wrong(f"line {at} is no lattice tableau")
-        readings.append([a for _, _, a in cells])
+        reading = [a for _, _, a in sorted((-starts[i] - j, i, a) for i, row in enumerate(rows) for j, a in enumerate(row))]
+        if any(a > 1 and reading[:i].count(a) >= reading[:i].count(a - 1) for i, a in enumerate(reading)):
+            raise Wrong(f"line {at} is no lattice tableau")
+        readings.append(reading)
     if any(a >= b for a, b in zip(readings, readings[1:])):
         raise Wrong("the tableaux are not in the order of their column readings, or one stands twice")
     if last:

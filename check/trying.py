@@ -6,8 +6,8 @@ import re
 import types
 
 import words
-from claims import BASES, Reader, shown
-from meaning import Definitions, NotComputed
+from claims import BASES, Undecided, shown, tree_of
+from meaning import Definitions
 from source import fields
 
 def readings(form, given):
@@ -35,7 +35,7 @@ def values_of_word(kind, word):
     if kind[0] == "target":
         return [(BASES[text],)] if text in BASES else []
     try:
-        return [phrase(Reader(text).whole())]
+        return [phrase(tree_of(text))]
     except ValueError:
         return []
 
@@ -139,7 +139,7 @@ class Trial:
         return found if len(names) > 1 or note == "0 to {}" else ((it,) for it in found)
 
     def nothing(self, where, name):
-        raise NotComputed(f"{where} speaks of all `{name}`, and nothing bounds these")
+        raise Undecided(f"{where} speaks of all `{name}`, and nothing bounds these")
 
     def for_all(self, names, values, holds):
         for it in values:

@@ -27,7 +27,6 @@ WORDS = {
     "codes": (1, tuple),
     "decimal": (1, lambda n: tuple(str(n).encode())),
     "signed_decimal": (1, lambda n: tuple(str(n).encode())),
-    "cond": (3, lambda test, a, b: a if test else b),
     "not": (1, lambda a: not a),
     "min": (2, min),
     "max": (2, max),
@@ -60,12 +59,22 @@ WORDS = {
     "IsTrue": (1, bool),
     "IfSome": (2, lambda it, holds: it == NONE or holds(it[1])),
 }
-# sign: the code of its value. `&&`, `||`, `×`, `⊎` and `→` look at their second side only if they must
+# sign: the code of its value. `&&`, `||`, `×`, `⊎`, `→` and `cond` look at a side only if they must
 SIGNS = {"+": "({} + {})", "*": "({} * {})", "^": "({} ** {})", "-": "max({} - {}, 0)", "/": "quotient({}, {})", "%": "rest({}, {})",
          "+ℤ": "({} + {})", "*ℤ": "({} * {})", "==": "({} == {})", "++": "({} + {})", "&&": "({} and {})", "||": "({} or {})",
          "≡": "({} == {})", "≢": "({} != {})", "≤": "({} <= {})", "<": "({} < {})", "×": "({} and {})", "⊎": "({} or {})",
-         "→": "(not {} or {})"}
-SCOPE = {"quotient": lambda a, b: a // b if b else 0, "rest": lambda a, b: a % b if b else a, "Record": Record}
+         "→": "(not {} or {})", "cond": "({1} if {0} else {2})"}
+SCOPE = {"quotient": lambda a, b: a // b if b else 0, "rest": lambda a, b: a % b if b else a, "Record": Record,
+         **{f"word_{at}": function for at, (_, function) in enumerate(WORDS.values())}}
+
+
+def call(place, count):
+    """The number of arguments of a function, and the code of its value."""
+    return count, f"{place}({', '.join(['{}'] * count)})"
+
+
+CODES = {**{name: (code.count("{"), code) for name, code in SIGNS.items()},
+         **{name: call(f"word_{at}", count) for at, (name, (count, _)) in enumerate(WORDS.items())}}
 
 
 def constructor(name, arity):
