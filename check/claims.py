@@ -2,6 +2,7 @@
 2*s[2,1]-1/3*h[3] is read as a tree, with the names of `Phrase` of the definitions: ("numeral", "2"), ("ratio", "1", "3"),
 ("label", ("schurs",), ["2", "1"]), ("brackets", e), ("minus_first", e), ("operation", ("plus",), e, f)."""
 import math
+import operator
 import re
 from fractions import Fraction
 
@@ -105,21 +106,21 @@ def tree_of(text):
     return fail() if words else found
 
 
-def fold(tree, of_number, of_label, signs):
-    """The value of an expression, from those of its numbers and labels; `signs` has the functions of +, - and *."""
+def fold(tree, of_number, of_label, plus, minus, times=operator.mul):
+    """The value of an expression, from those of its numbers and labels and the functions of +, - and *."""
     kind, *parts = tree
     if kind in ("numeral", "ratio"):
         return of_number(Fraction(*numbers(parts)))
     if kind == "label":
         return of_label(next(letter for letter, name in BASES.items() if name == parts[0][0]), partition(numbers(parts[1])))
-    values = [fold(it, of_number, of_label, signs) for it in parts if len(it) > 1]
+    values = [fold(it, of_number, of_label, plus, minus, times) for it in parts if len(it) > 1]
     if kind == "brackets":
         return values[0]
-    return signs["minus"](of_number(Fraction(0)), values[0]) if kind == "minus_first" else signs[parts[0][0]](*values)
+    return minus(of_number(Fraction(0)), values[0]) if kind == "minus_first" else {"plus": plus, "minus": minus, "times": times}[parts[0][0]](*values)
 
 
 def degree(tree):
-    return fold(tree, lambda it: 0, lambda basis, parts: sum(parts), {"plus": max, "minus": max, "times": lambda a, b: a + b})
+    return fold(tree, lambda it: 0, lambda basis, parts: sum(parts), max, max, operator.add)
 
 
 def expression(words):

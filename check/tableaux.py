@@ -112,8 +112,14 @@ def lines_in(text, count):
 
 
 def check_text(claim, text):
-    """Checks the text of tableaux or of a word; the result says how."""
+    """Checks the text of a number, of tableaux or of a word; the result says how."""
     data = claim.data
+    if claim.name == "coef":
+        if not re.fullmatch(r"\s*(-(?=0*[1-9]))?[0-9]{1,4000}\s*", text):
+            raise Unreadable("a single number is wanted")
+        if int(text) != coefficient(*data):
+            raise Wrong(f"the number is {coefficient(*data)}, a signed sum of Kostka numbers")
+        return "a signed sum of Kostka numbers"
     if claim.name == "tab":
         return check_tableaux(*data[:2], text, data[2:])
     if claim.name == "rsk":

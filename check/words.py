@@ -45,7 +45,6 @@ WORDS = {
     "replicate": (2, lambda n, it: (it,) * n),
     "take": (2, lambda n, items: items[:n]),
     "drop": (2, lambda n, items: items[n:]),
-    "remove": (2, lambda items, i: items[:i] + items[i + 1:]),
     "swap": (3, exchanged),
     "slice_index": (2, lambda items, i: entry_or(items, i, 0)),
     "slice_index_or": (3, entry_or),
@@ -54,10 +53,7 @@ WORDS = {
     "join_with_byte": (2, lambda byte, texts: tuple(b for text in texts for b in (byte, *text))[1:]),
     "option_map": (2, lambda f, it: it if it == NONE else ("Some", f(it[1]))),
     "option_map_or": (3, lambda f, it, d: d if it == NONE else f(it[1])),
-    "option_or": (2, lambda a, b: b if a == NONE else a),
-    "unwrap_or": (2, lambda it, d: d if it == NONE else it[1]),
     "IsTrue": (1, bool),
-    "IfSome": (2, lambda it, holds: it == NONE or holds(it[1])),
 }
 # sign: the code of its value. `&&`, `||`, `×`, `⊎`, `→` and `cond` look at a side only if they must
 SIGNS = {"+": "({} + {})", "*": "({} * {})", "^": "({} ** {})", "-": "max({} - {}, 0)", "/": "quotient({}, {})", "%": "rest({}, {})",
