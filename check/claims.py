@@ -65,21 +65,20 @@ def split(words, mark):
     return [words[start + 1:end] for start, end in zip([-1, *ends], ends)]
 
 
-def rows_of(words, is_skew=True):
-    """The rows of a tableau; only one that is skew may have empty rows."""
+def rows_of(words):
+    """The rows of a tableau; one that is skew may have empty rows."""
     parts = split(words, "/")
-    rows = tuple(() if it == ["."] else numbers(it) for it in parts)
-    if parts != [["."]] and not (all(parts) and (is_skew or all(rows))):
+    if not all(parts):
         raise Unreadable("a row of a tableau is missing")
-    return rows if parts != [["."]] else ()
+    return tuple(() if it == ["."] else numbers(it) for it in parts) if parts != [["."]] else ()
 
 
 def tree_of(text):
-    """The tree of an expression; ValueError says where the text is none."""
+    """The tree of an expression; Unreadable says where the text is none."""
     words = WORD.findall(text)[::-1]
 
     def fail():
-        raise ValueError(f"the expression {text} cannot be read {len(''.join(words).encode())} bytes before its end")
+        raise Unreadable(f"the expression {text} cannot be read {len(''.join(words).encode())} bytes before its end")
 
     def joined(signs, read, found):
         while words and words[-1] in signs:
@@ -94,8 +93,7 @@ def tree_of(text):
         return joined("*", factor, factor())
 
     def factor():
-        word = words[-1] if words and re.match(r"[(0-9]|.\[", words[-1]) else fail()
-        words.pop()
+        word = words.pop() if words and re.match(r"[(0-9]|.\[", words[-1]) and not re.search("/0+$", words[-1]) else fail()
         if word == "(":
             found = "brackets", sum_here()
             return found if words[-1:] == [")"] and words.pop() else fail()
@@ -123,16 +121,7 @@ def degree(tree):
     return fold(tree, lambda it: 0, lambda basis, parts: sum(parts), max, max, operator.add)
 
 
-def expression(words):
-    try:
-        tree = tree_of(words[0])
-        degree(tree)
-        return tree
-    except (ValueError, ZeroDivisionError) as why:
-        raise Unreadable(f"{why}") from why
-
-
-PARTITION, PERMUTATION = (lambda words: partition(numbers(words))), (lambda words: permutation(numbers(words)))
+PARTITION, PERMUTATION, EXPRESSION = (lambda it: partition(numbers(it))), (lambda it: permutation(numbers(it))), (lambda it: tree_of(it[0]))
 # the name of a command: the kind of its labels, the sign between its parts, the least and the greatest number of these, and what reads a part
 COMMANDS = {
     "mult": ("partition", "-", 2, 8, PARTITION), "skew": ("partition", "/", 2, 2, PARTITION),
@@ -140,8 +129,8 @@ COMMANDS = {
     "quantum": ("power", "-", 2, 8, PARTITION), "fusion": ("partition", "-", 2, 8, PARTITION),
     "schubert": ("monomial", "-", 1, 1, PERMUTATION), "schubmult": ("permutation", "-", 2, 2, PERMUTATION),
     "dschubmult": ("shift", "-", 2, 2, PERMUTATION), "stanley": ("partition", "-", 1, 1, PERMUTATION),
-    "expand": ("partition", None, 1, 1, expression), "plethysm": ("partition", None, 2, 2, expression),
-    "tab": ("text", "-from", 2, 3, rows_of), "rect": ("text", "-", 3, 3, rows_of), "unrsk": ("text", "-", 2, 2, lambda words: rows_of(words, False)),
+    "expand": ("partition", None, 1, 1, EXPRESSION), "plethysm": ("partition", None, 2, 2, EXPRESSION),
+    "tab": ("text", "-from", 2, 3, rows_of), "rect": ("text", "-", 3, 3, rows_of), "unrsk": ("text", "-", 2, 2, rows_of),
     "rsk": ("text", "-", 1, 1, numbers), "growth": ("text", "-", 1, 1, PERMUTATION),
 }
 

@@ -44,16 +44,12 @@ def tableaux(content, most):
 
 def coefficient(outer, left, right):
     """The coefficient of s_outer in the product of two Schur functions: a signed sum of Kostka numbers."""
-    if sum(outer) != sum(left) + sum(right) or max(len(left), len(right)) > len(outer):
-        return 0
     left, right = sorted((left, right), key=sum)
     return sum(c * tableaux(content, left)[left] for content, c in signed_contents(outer, right).items())
 
 
 def count_lattice_tableaux(outer, inner):
     """The number of lattice tableaux of a skew shape: a signed sum of the numbers of tableaux of any shape with a content."""
-    if len(inner) > len(outer) or any(a < b for a, b in zip(outer, inner)):
-        return 0
     return sum(c * sum(tableaux(content, None).values()) for content, c in signed_contents(outer, inner).items())
 
 
@@ -97,7 +93,7 @@ def must_be_pair(word, p, q=None):
     letters up to it, and of the word up to it."""
     pairs = [("P", p, word, lambda most: [a for a in word if a <= most]), ("Q", q, range(1, len(word) + 1), lambda most: word[:most])]
     for name, rows, entries, part in pairs[:1 if q is None else 2]:
-        if not is_tableau(rows, tuple(map(len, rows))) or sorted(entries) != sorted(a for row in rows for a in row):
+        if not all(rows) or not is_tableau(rows, tuple(map(len, rows))) or sorted(entries) != sorted(a for row in rows for a in row):
             raise Wrong(f"{name} is no tableau with the right entries")
         for most in sorted(set(entries)):
             if greene(part(most)) != tuple(it for it in (sum(a <= most for a in row) for row in rows) if it):
@@ -126,14 +122,14 @@ def check_text(claim, text):
         lines = lines_in(text, 2)
         if [it[:2] for it in lines] != ["P ", "Q "]:
             raise Unreadable("a line `P ..` and a line `Q ..` are wanted")
-        must_be_pair(data[0], *(rows_of(it[2:].split(), False) for it in lines))
+        must_be_pair(data[0], *(rows_of(it[2:].split()) for it in lines))
     elif claim.name == "unrsk":
         must_be_pair(numbers(lines_in(text, 1)[0].split()), *data)
     elif claim.name == "rect":
         outer, inner, rows = data
         if not is_tableau(rows, outer, inner):
             raise Unreadable("the tableau of the command is not semistandard, or not of the shape")
-        must_be_pair([a for row in reversed(rows) for a in row], rows_of(lines_in(text, 1)[0].split(), False))
+        must_be_pair([a for row in reversed(rows) for a in row], rows_of(lines_in(text, 1)[0].split()))
     else:
         for i, line in enumerate(lines_in(text, len(data[0]) + 1)):
             shapes = [partition(numbers(re.findall("[0-9]+", it))) for it in line.split(" ")]

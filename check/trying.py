@@ -6,7 +6,7 @@ import re
 import types
 
 import words
-from claims import BASES, Undecided, shown, tree_of
+from claims import BASES, Undecided, Unreadable, shown, tree_of
 from meaning import Definitions
 from source import fields
 
@@ -36,7 +36,7 @@ def values_of_word(kind, word):
         return [(BASES[text],)] if text in BASES else []
     try:
         return [phrase(tree_of(text))]
-    except ValueError:
+    except Unreadable:
         return []
 
 
