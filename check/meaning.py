@@ -12,14 +12,11 @@ from source import arguments_of, clauses, fields, head_of, names_in, split
 SMALL, MOST_KEPT = ("ℕ", "ℤ", "Bool", "List ℕ"), 80
 
 
-def kept(function, values):
-    """The function, with its values kept by its arguments if these are no functions and no long lists."""
+def kept(function, saved):
+    """The function, or the one that keeps its values, if the arguments are no functions and no long lists."""
     def answered(*arguments):
-        if any(callable(it) or it.__class__ is tuple and len(it) > MOST_KEPT for it in arguments):
-            return function(*arguments)
-        if arguments not in values:
-            values[arguments] = function(*arguments)
-        return values[arguments]
+        is_long = any(callable(it) or it.__class__ is tuple and len(it) > MOST_KEPT for it in arguments)
+        return (function if is_long else saved)(*arguments)
     return answered
 
 
@@ -42,12 +39,12 @@ class Definitions:
     def __init__(self, top, scope, tried):
         self.top, self.names, self.queue, self.fresh, self.where, self.tried = top, {}, [], 0, "", tried
         self.scope = {"partial": functools.partial, "missing": missing, **words.SCOPE, **scope}
-        self.decided = []  # (what propositions gave, by their arguments)
+        self.decided = []  # (the propositions whose values are kept)
 
     def forget(self):
         """Forgets what propositions gave: it depends on what was tried."""
         for it in self.decided:
-            it.clear()
+            it.cache_clear()
 
     # ---- names
 
@@ -112,15 +109,16 @@ class Definitions:
         """The function with a name in the code, once all definitions that were named are compiled."""
         while self.queue:
             declaration, file, self.where = meaning = self.queue.pop()
-            name, values = self.names[meaning], {}
+            name = self.names[meaning]
             try:
                 self.compile(name, self.record(declaration, file) if declaration.kind == "record" else self.clauses(clauses(declaration, file)))
             except Undecided as why:
                 self.scope[name] = functools.partial(missing, f"{self.where}: {why}")
             result = " ".join(split(declaration.words, "→")[-1])
             if result not in SMALL or not clauses(declaration, file)[0][0]:
-                self.scope[name] = kept(self.scope[name], values)
-            self.decided += [values] if declaration.kind == "record" or result == "Type 0" else []
+                saved = functools.lru_cache(None)(self.scope[name])
+                self.scope[name] = kept(self.scope[name], saved)
+                self.decided += [saved] if declaration.kind == "record" or result == "Type 0" else []
         return self.scope[place]
 
     def compile(self, place, code):

@@ -111,11 +111,6 @@ class Point:
         return Point(self.modulus, lambda k: Point(self.modulus, lambda j: self.p(j * k)).value(tree))
 
 
-def point_at(modulus, xs):
-    """The point of these variables."""
-    return Point(modulus, lambda k: sum(pow(x, k, modulus) for x in xs))
-
-
 def schuberts(terms, weight, modulus, rows=None):
     """The sum of c·S_w over the terms (c, w): the coefficient of w in the product of the 1 + weight·u_g of nilCoxeter elements. Row i has the
     factors for g from n - 1 down to i, or to 1 for Stanley functions of this number of rows; a factor takes the letters g + 1, g of a
@@ -145,7 +140,7 @@ def sides(claim, terms, modulus):
     """Both sides of a claim at a random point."""
     k, data, basis = claim.variables, claim.data, claim.basis
     x, y = (defaultdict(lambda: RANDOM.randrange(modulus)) for _ in "xy")  # (random numbers by their indices)
-    at = point_at(modulus, [x[i] for i in range(1, k + 1)]) if k else Point(modulus, x.__getitem__)
+    at = Point(modulus, (lambda power: sum(pow(x[i], power, modulus) for i in range(1, k + 1))) if k else x.__getitem__)
     other, single, double = Point(modulus, y.__getitem__), lambda i, g: x[i], lambda i, g: x[i] - y[g - i + 1]
     power = lambda numbers, exponents: math.prod(pow(numbers[i], a, modulus) for i, a in enumerate(exponents, 1))
     schubert = lambda w, weight=single, rows=None: schuberts([(1, w)], weight, modulus, rows)
@@ -176,7 +171,8 @@ def check_roots(claim, terms, modulus):
     rotations = lambda places: (tuple(sorted((it - first) % n for it in places)) for first in places)
     tuples = [it for it in itertools.combinations(range(n), k) if it == min(rotations(it))]
     for count, places in enumerate(tuples, 1):
-        at = point_at(modulus, [pow(root, 2 * it + (claim.kind == "power" and k % 2 == 0), modulus) for it in places])
+        xs = [pow(root, 2 * it + (claim.kind == "power" and k % 2 == 0), modulus) for it in places]
+        at = Point(modulus, lambda power, xs=xs: sum(pow(x, power, modulus) for x in xs))
         if (math.prod(map(at.s, claim.data)) - at.sum("s", table)) % modulus:
             raise Wrong(f"the two sides differ at the tuple of roots of unity number {count}")
     return f"each of {len(tuples)} tuples of roots of unity"

@@ -22,11 +22,8 @@ NO_NAMES = {"", ".", "=", ";", ",", ")", "}", ":", "in", *PAIRS, *OPERATORS}
 @functools.lru_cache(None)
 def clauses(declaration, file):
     """The clauses of a definition, each as its patterns and its body."""
-    found = []
-    for words in declaration.clauses:
-        head = split(words, "=")[0]
-        found.append((arguments_of(tree(head, file)), tree(words[len(head) + 1:], file)))
-    return found
+    heads = [split(words, "=")[0] for words in declaration.clauses]
+    return [(arguments_of(tree(head, file)), tree(words[len(head) + 1:], file)) for head, words in zip(heads, declaration.clauses)]
 
 
 @functools.lru_cache(None)

@@ -73,7 +73,8 @@ TRIED = {
     "GoesTo.left": REMOVAL, "HasNoRemoval.left": REMOVAL, "GoesTo.t": SIGNS, "ReducesTo.sign": SIGNS,
     "ReducesTo.end": ("each partition inside the shape", lambda trial, of: inside(of.shape)),
     "IsRimHookReduction.reductions": ("", lambda trial, of: trial.reductions(of.k, of.n, of.classical)),
-    "IsQuantumStep.reductions": ("", lambda trial, of: itertools.product(*(trial.step(of.k, of.n, t[0][1], of.factor) for t in of.terms))),
+    "IsQuantumStep.reductions": ("", lambda trial, of: itertools.product(*(trial.reductions(
+        of.k, of.n, trial.of("Products.classical_product", of.k, (t[0][1], of.factor))) for t in of.terms))),
     "HasNoSquare.i": ("", lambda trial, of: trial.cells(of)),
     "IsConnected.i": ("", lambda trial, of: (a + b for a, b in itertools.product(trial.cells(of), repeat=2))),
     "IsConnected.path": ("a shortest path of cells", lambda trial, of: path(trial.cells(of), (of.i, of.j), (of.k, of.l))),
@@ -119,9 +120,6 @@ class Trial:
         found = ([it for it in (words.NONE, *some(label)) if self.of("RimHookReduction.ReducesTo", k, n, label, it)] for label, _ in terms)
         return itertools.product(*found)
 
-    def step(self, k, n, *factors):
-        return self.reductions(k, n, self.of("Products.classical_product", k, factors))
-
     def slides(self, filling):
         """The rows at which slides begin, and the tableau to which they lead, as often as one can begin."""
         inner = filling["inner"]
@@ -145,8 +143,7 @@ class Trial:
         for it in values:
             self.reason = ""
             if not holds(*it):
-                if self.reason:
-                    self.reason = f"{' and '.join(names)} = {' and '.join(map(str, it))}: {self.reason}"
+                self.reason = self.reason and f"{' and '.join(names)} = {' and '.join(map(str, it))}: {self.reason}"
                 return False
         return True
 

@@ -15,12 +15,6 @@ def entry_or(items, i, default):
     return items[i] if i < len(items) else default
 
 
-def exchanged(items, i, j):
-    """The list with two entries exchanged; after the end is the first entry."""
-    places = {i: j, j: i}
-    return tuple(entry_or(items, places.get(at, at), items[0]) for at in range(len(items)))
-
-
 NONE, LESS, EQUAL, GREATER = ("None",), ("Less",), ("Equal",), ("Greater",)
 # name: (number of arguments, function)
 WORDS = {
@@ -45,7 +39,8 @@ WORDS = {
     "replicate": (2, lambda n, it: (it,) * n),
     "take": (2, lambda n, items: items[:n]),
     "drop": (2, lambda n, items: items[n:]),
-    "swap": (3, exchanged),
+    # (the list with two entries exchanged; after the end is the first entry)
+    "swap": (3, lambda items, i, j: tuple(entry_or(items, {i: j, j: i}.get(at, at), items[0]) for at in range(len(items)))),
     "slice_index": (2, lambda items, i: entry_or(items, i, 0)),
     "slice_index_or": (3, entry_or),
     "slice_get": (2, lambda items, i: ("Some", items[i]) if i < len(items) else NONE),
