@@ -94,7 +94,7 @@ def must_be_pair(word, p, q=None):
     pairs = [("P", p, word, lambda most: [a for a in word if a <= most]), ("Q", q, range(1, len(word) + 1), lambda most: word[:most])]
     for name, rows, entries, part in pairs[:1 if q is None else 2]:
         if not all(rows) or not is_tableau(rows, tuple(map(len, rows))) or sorted(entries) != sorted(a for row in rows for a in row):
-            raise Wrong(f"{name} is no tableau with the right entries")
+            raise Wrong(f"{name} is no tableau of the letters that it must have")
         for most in sorted(set(entries)):
             if greene(part(most)) != tuple(it for it in (sum(a <= most for a in row) for row in rows) if it):
                 raise Wrong(f"the entries up to {most} have another shape in {name}")
