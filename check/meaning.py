@@ -41,11 +41,6 @@ class Definitions:
         self.scope = {"partial": functools.partial, "missing": missing, **words.SCOPE, **scope}
         self.decided = []  # (the propositions whose values are kept)
 
-    def forget(self):
-        """Forgets what propositions gave: it depends on what was tried."""
-        for it in self.decided:
-            it.cache_clear()
-
     # ---- names
 
     @functools.lru_cache(None)

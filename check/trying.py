@@ -97,7 +97,8 @@ class Trial:
     def begin(self, most):
         """Forgets what was found for an earlier answer."""
         self.most, self.notes, self.reason = most, {}, ""
-        self.definitions.forget()
+        for it in self.definitions.decided:  # (what propositions gave depends on what was tried)
+            it.cache_clear()
 
     def of(self, path, *arguments):
         """The value of a definition."""
