@@ -1,6 +1,5 @@
 """The values that are tried for what propositions say of all values, or of some value. Where the definitions bound these by what they say of them, all
 that can fit are tried; what is tried otherwise is noted, to be printed."""
-import functools
 import itertools
 import re
 import types
