@@ -1,6 +1,8 @@
 """The commands of calc, as check/table reads them: their words, partitions, permutations, tableaux and expressions. An expression such as
 2*s[2,1]-1/3*h[3] is read as a tree, with the names of `Phrase` of the definitions: ("numeral", "2"), ("ratio", "1", "3"),
 ("label", ("schurs",), ["2", "1"]), ("brackets", e), ("minus_first", e), ("operation", ("plus",), e, f)."""
+import math
+import operator
 import re
 from fractions import Fraction
 
@@ -14,7 +16,7 @@ class Unreadable(Exception):
 
 
 class Undecided(Exception):
-    """The check would take too long here."""
+    """What would take too long, or is not there, or cannot be read or computed; the text says what."""
 
 
 class Wrong(Exception):
@@ -35,26 +37,26 @@ def numbers(words):
     return tuple(map(int, words))
 
 
-def without_last(number, items):
-    """The list without this number at its end."""
-    while items and items[-1] == number:
-        items = items[:-1]
-    return items
+def without_zeros(items):
+    """The list without the zeros at its end."""
+    return items[:max((at for at, it in enumerate(items, 1) if it), default=0)]
 
 
 def partition(items):
     if any(a < b for a, b in zip(items, items[1:])):
         raise Unreadable(f"{shown(items)} is no partition")
-    return without_last(0, items)
+    return without_zeros(items)
 
 
 def permutation(items):
     """A permutation without fixed letters at its end, but with the letter 1."""
     if sorted(items) != list(range(1, len(items) + 1)) or not items:
         raise Unreadable(f"{shown(items)} is no permutation")
-    while len(items) > 1 and items[-1] == len(items):
-        items = items[:-1]
-    return items
+    return items[:max((at for at, it in enumerate(items, 1) if it != at), default=1)]
+
+
+def inversions(items):
+    return sum(a > b for i, a in enumerate(items) for b in items[i + 1:])
 
 
 def split(words, mark):
@@ -63,82 +65,63 @@ def split(words, mark):
     return [words[start + 1:end] for start, end in zip([-1, *ends], ends)]
 
 
-def rows_of(words, is_skew=True):
-    """The rows of a tableau; only one that is skew may have empty rows."""
+def rows_of(words):
+    """The rows of a tableau; one that is skew may have empty rows."""
     parts = split(words, "/")
-    rows = tuple(() if it == ["."] else numbers(it) for it in parts)
-    if parts != [["."]] and not (all(parts) and (is_skew or all(rows))):
+    if not all(parts):
         raise Unreadable("a row of a tableau is missing")
-    return rows if parts != [["."]] else ()
+    return tuple(() if it == ["."] else numbers(it) for it in parts) if parts != [["."]] else ()
 
 
-class Reader:
-    """Reads a text; ValueError says where it is no expression."""
+def tree_of(text):
+    """The tree of an expression; Unreadable says where the text is none."""
+    words = WORD.findall(text)[::-1]
 
-    def __init__(self, text):
-        self.text, self.words = text, WORD.findall(text)[::-1]
+    def fail():
+        raise Unreadable(f"the expression {text} cannot be read {len(''.join(words).encode())} bytes before its end")
 
-    def whole(self):
-        found = self.sum()
-        return found if not self.words else self.fail()
-
-    def fail(self):
-        raise ValueError(f"the expression {self.text} cannot be read {len(''.join(self.words).encode())} bytes before its end")
-
-    def has(self, signs):
-        """The next word if it is one of these signs, which is then taken."""
-        return self.words.pop() if self.words and self.words[-1] in signs else ""
-
-    def sum(self):
-        return self.joined("+-", self.product, ("minus_first", self.product()) if self.has("-") else self.product())
-
-    def product(self):
-        return self.joined("*", self.factor, self.factor())
-
-    def joined(self, signs, read, found):
-        while sign := self.has(signs):
-            found = ("operation", (SIGNS[sign],), found, read())
+    def joined(signs, read, found):
+        while words and words[-1] in signs:
+            found = "operation", (SIGNS[words.pop()],), found, read()
         return found
 
-    def factor(self):
-        if self.has("("):
-            found = ("brackets", self.sum())
-            return found if self.has(")") else self.fail()
-        if not self.words or len(self.words[-1]) == 1 and self.words[-1] not in "0123456789":
-            self.fail()
-        word = self.words.pop()
+    def sum_here():
+        is_minus = words[-1:] == ["-"] and words.pop()
+        return joined("+-", product, ("minus_first", product()) if is_minus else product())
+
+    def product():
+        return joined("*", factor, factor())
+
+    def factor():
+        word = words.pop() if words and re.match(r"[(0-9]|.\[", words[-1]) and not re.search("/0+$", words[-1]) else fail()
+        if word == "(":
+            found = "brackets", sum_here()
+            return found if words[-1:] == [")"] and words.pop() else fail()
         if word[-1] == "]":
             return "label", (BASES[word[0]],), re.findall("[0-9]+", word)
         return ("ratio", *word.split("/")) if "/" in word else ("numeral", word)
+    found = sum_here()
+    return fail() if words else found
 
 
-def fold(tree, of_number, of_label, signs):
-    """The value of an expression, from those of its numbers and labels; `signs` has the functions of +, - and *."""
+def fold(tree, of_number, of_label, plus, minus, times=operator.mul):
+    """The value of an expression, from those of its numbers and labels and the functions of +, - and *."""
     kind, *parts = tree
     if kind in ("numeral", "ratio"):
         return of_number(Fraction(*numbers(parts)))
     if kind == "label":
         return of_label(next(letter for letter, name in BASES.items() if name == parts[0][0]), partition(numbers(parts[1])))
-    values = [fold(it, of_number, of_label, signs) for it in parts if len(it) > 1]
+    values = [fold(it, of_number, of_label, plus, minus, times) for it in parts if len(it) > 1]
     if kind == "brackets":
         return values[0]
-    return signs["minus"](of_number(Fraction(0)), values[0]) if kind == "minus_first" else signs[parts[0][0]](*values)
+    return minus(of_number(Fraction(0)), values[0]) if kind == "minus_first" else {"plus": plus, "minus": minus, "times": times}[parts[0][0]](*values)
 
 
 def degree(tree):
-    return fold(tree, lambda it: 0, lambda basis, parts: sum(parts), {"plus": max, "minus": max, "times": lambda a, b: a + b})
+    return fold(tree, lambda it: 0, lambda basis, parts: sum(parts), max, max, operator.add)
 
 
-def expression(words):
-    try:
-        tree = Reader(words[0]).whole()
-        degree(tree)
-        return tree
-    except (ValueError, ZeroDivisionError) as why:
-        raise Unreadable(f"{why}") from why
-
-
-PARTITION, PERMUTATION = (lambda words: partition(numbers(words))), (lambda words: permutation(numbers(words)))
+PARTITION, PERMUTATION, EXPRESSION = (lambda it: partition(numbers(it))), (lambda it: permutation(numbers(it))), (lambda it: tree_of(it[0]))
 # the name of a command: the kind of its labels, the sign between its parts, the least and the greatest number of these, and what reads a part
 COMMANDS = {
     "mult": ("partition", "-", 2, 8, PARTITION), "skew": ("partition", "/", 2, 2, PARTITION),
@@ -146,8 +129,8 @@ COMMANDS = {
     "quantum": ("power", "-", 2, 8, PARTITION), "fusion": ("partition", "-", 2, 8, PARTITION),
     "schubert": ("monomial", "-", 1, 1, PERMUTATION), "schubmult": ("permutation", "-", 2, 2, PERMUTATION),
     "dschubmult": ("shift", "-", 2, 2, PERMUTATION), "stanley": ("partition", "-", 1, 1, PERMUTATION),
-    "expand": ("partition", None, 1, 1, expression), "plethysm": ("partition", None, 2, 2, expression),
-    "tab": ("text", "-from", 2, 3, rows_of), "rect": ("text", "-", 3, 3, rows_of), "unrsk": ("text", "-", 2, 2, lambda words: rows_of(words, False)),
+    "expand": ("partition", None, 1, 1, EXPRESSION), "plethysm": ("partition", None, 2, 2, EXPRESSION),
+    "tab": ("text", "-from", 2, 3, rows_of), "rect": ("text", "-", 3, 3, rows_of), "unrsk": ("text", "-", 2, 2, rows_of),
     "rsk": ("text", "-", 1, 1, numbers), "growth": ("text", "-", 1, 1, PERMUTATION),
 }
 
@@ -179,9 +162,9 @@ class Claim:
     def degree(self):
         """The degree of both sides, or a bound for it."""
         if self.name in ("expand", "plethysm"):
-            return degree(self.data[0]) * (degree(self.data[1]) if self.name == "plethysm" else 1)
+            return math.prod(map(degree, self.data))
         if self.name in ("schubert", "schubmult", "dschubmult"):
             return sum(len(it) ** 2 for it in self.data)
         if self.name == "stanley":
-            return sum(a > b for i, a in enumerate(self.data[0]) for b in self.data[0][i + 1:])
+            return inversions(self.data[0])
         return sum(self.data[0]) - sum(self.data[1]) if self.name == "skew" else sum(map(sum, self.data))

@@ -36,21 +36,17 @@ def modulo(value, modulus):
     return value.numerator % modulus if value.denominator == 1 else value.numerator * pow(value.denominator, -1, modulus) % modulus
 
 
-def numbers(modulus):
-    """Random numbers by their indices."""
-    return defaultdict(lambda: RANDOM.randrange(modulus))
-
-
 class Point:
     """A point at which symmetric functions are evaluated: the values of its power sums p_1, p_2, .. . If these are random, what holds there holds
     in every number of variables."""
 
     def __init__(self, modulus, power):
-        self.modulus, self.monomials = modulus, {(): 1}
+        self.modulus = modulus
         self.h, self.e = functools.partial(self.newton, [1], 1), functools.partial(self.newton, [1], -1)
         self.p = functools.lru_cache(None)(lambda k: power(k) % modulus)
         self.row = functools.lru_cache(None)(lambda l, columns: [self.h(l + c) for c in columns])
-        self.reduced = functools.lru_cache(500)(self.reduce)
+        self.reduced, self.s = functools.lru_cache(500)(self.reduce), functools.lru_cache(None)(self.schur)
+        self.augmented = functools.lru_cache(None)(self.sum_of_monomials)
 
     def newton(self, found, sign, k):
         """The value of h_k or e_k by Newton's identities; those before it are found."""
@@ -76,7 +72,7 @@ class Point:
             others.append([(a - c * b) % modulus if b else a for a, b in zip(it, pivot)])
         return value * (-1) ** at * found[at] % modulus, others
 
-    def s(self, outer, inner=()):
+    def schur(self, outer, inner=()):
         """The Schur function or skew Schur function: the determinant of Jacobi and Trudi."""
         if len(inner) > len(outer) or any(a < b for a, b in zip(outer, inner)):
             return 0
@@ -87,15 +83,11 @@ class Point:
         last = [[sum(map(operator.mul, self.row(l, columns), it)) for it in vectors] for l in rows[-2:]]
         return value * (last[0][0] * last[1][1] - last[0][1] * last[1][0] if last[1:] else last[0][0]) % self.modulus
 
-    def augmented(self, parts):
+    def sum_of_monomials(self, parts):
         """The sum over different variables of x_1^a·x_2^b·.. for the parts a, b, .. ."""
-        if parts not in self.monomials:
-            *front, last = parts
-            value = self.p(last) * self.augmented(tuple(front))
-            for i, a in enumerate(front):
-                value -= self.augmented(tuple(sorted([*front[:i], *front[i + 1:], a + last], reverse=True)))
-            self.monomials[parts] = value % self.modulus
-        return self.monomials[parts]
+        *front, last = parts or (0,)
+        others = (self.augmented(tuple(sorted([*front[:i], *front[i + 1:], a + last], reverse=True))) for i, a in enumerate(front))
+        return (self.p(last) * self.augmented(tuple(front)) - sum(others)) % self.modulus if parts else 1
 
     def m(self, parts):
         repeated = math.prod(map(math.factorial, Counter(parts).values()))
@@ -108,31 +100,25 @@ class Point:
     def sum(self, basis, terms):
         """The sum of the terms. In this order the determinants have most rows in common."""
         terms = sorted(terms, key=lambda it: (len(it[1]), it[1]))
-        return sum(modulo(c, self.modulus) * self.of(basis, label) for c, label in terms) % self.modulus
+        return sum(c * self.of(basis, label) for c, label in terms) % self.modulus
 
     def value(self, tree):
         """The value of an expression."""
-        signs = {"plus": operator.add, "minus": operator.sub, "times": lambda a, b: a * b % self.modulus}
-        return fold(tree, lambda it: modulo(it, self.modulus), self.of, signs)
+        return fold(tree, lambda it: modulo(it, self.modulus), self.of, operator.add, operator.sub)
 
     def inside(self, tree):
         """The point at which a function f has the value of f[g] here, for an expression g."""
         return Point(self.modulus, lambda k: Point(self.modulus, lambda j: self.p(j * k)).value(tree))
 
 
-def point_at(modulus, xs):
-    """The point of these variables."""
-    return Point(modulus, lambda k: sum(pow(x, k, modulus) for x in xs))
-
-
 def schuberts(terms, weight, modulus, rows=None):
-    """The sum of c·S_w over the terms (w, c): the coefficient of w in the product of the 1 + weight·u_g of nilCoxeter elements. Row i has the
+    """The sum of c·S_w over the terms (c, w): the coefficient of w in the product of the 1 + weight·u_g of nilCoxeter elements. Row i has the
     factors for g from n - 1 down to i, or to 1 for Stanley functions of this number of rows; a factor takes the letters g + 1, g of a
     permutation to g, g + 1 if they stand in this order."""
-    n, states = max([len(it) for it in terms] + [1]), Counter()
+    n, states = max([len(w) for _, w in terms] + [1]), Counter()
     if n > 255:
         raise Undecided("a permutation has more than 255 letters")
-    for w, c in terms.items():
+    for c, w in terms:
         states[bytes([*w, *range(len(w) + 1, n + 1)])] += c
     for i in range(1, rows + 1 if rows else n):
         for g in range(n - 1, 0 if rows else i - 1, -1):
@@ -153,32 +139,23 @@ def schuberts(terms, weight, modulus, rows=None):
 def sides(claim, terms, modulus):
     """Both sides of a claim at a random point."""
     k, data, basis = claim.variables, claim.data, claim.basis
-    x, y = numbers(modulus), numbers(modulus)
-    at = point_at(modulus, [x[i] for i in range(1, k + 1)]) if k else Point(modulus, x.__getitem__)
+    x, y = (defaultdict(lambda: RANDOM.randrange(modulus)) for _ in "xy")  # (random numbers by their indices)
+    at = Point(modulus, (lambda power: sum(pow(x[i], power, modulus) for i in range(1, k + 1))) if k else x.__getitem__)
     other, single, double = Point(modulus, y.__getitem__), lambda i, g: x[i], lambda i, g: x[i] - y[g - i + 1]
     power = lambda numbers, exponents: math.prod(pow(numbers[i], a, modulus) for i, a in enumerate(exponents, 1))
-    schubert = lambda terms, weight=single, rows=None: schuberts(terms, weight, modulus, rows)
-
-    def shifted():
-        """The permutations of labels (w, β), each with the sum of its c·y^β."""
-        found = Counter()
-        for c, (w, exponents) in terms:
-            found[w] += modulo(c, modulus) * power(y, exponents)
-        return found
-
-    def pairs():
-        first, second = ({it: point.s(it) for it in sorted({label[i] for _, label in terms})} for i, point in enumerate((at, other)))
-        return sum(modulo(c, modulus) * first[mu] * second[nu] for c, (mu, nu) in terms)
+    schubert = lambda w, weight=single, rows=None: schuberts([(1, w)], weight, modulus, rows)
+    terms = [(modulo(c, modulus), label) for c, label in terms]
     return {
         "mult": lambda: (math.prod(map(at.s, data)), at.sum("s", terms)),
         "skew": lambda: (at.s(*data), at.sum("s", terms)),
-        "coprod": lambda: (Point(modulus, lambda k: at.p(k) + other.p(k)).s(data[0]), pairs()),
+        "coprod": lambda: (Point(modulus, lambda k: at.p(k) + other.p(k)).s(data[0]), sum(c * at.s(mu) * other.s(nu) for c, (mu, nu) in terms)),
         "expand": lambda: (at.value(data[0]), at.sum(basis, terms)),
         "plethysm": lambda: (at.inside(data[1]).value(data[0]), at.sum(basis, terms)),
-        "schubert": lambda: (schubert({data[0]: 1}), sum(modulo(c, modulus) * power(x, it) for c, it in terms)),
-        "schubmult": lambda: (schubert({data[0]: 1}) * schubert({data[1]: 1}), schubert({w: modulo(c, modulus) for c, w in terms})),
-        "dschubmult": lambda: (schubert({data[0]: 1}, double) * schubert({data[1]: 1}, double), schubert(shifted(), double)),
-        "stanley": lambda: (schubert({data[0]: 1}, single, k), at.sum("s", terms)),
+        "schubert": lambda: (schubert(data[0]), sum(c * power(x, it) for c, it in terms)),
+        "schubmult": lambda: (schubert(data[0]) * schubert(data[1]), schuberts(terms, single, modulus)),
+        "dschubmult": lambda: (schubert(data[0], double) * schubert(data[1], double),
+                               schuberts([(c * power(y, it), w) for c, (w, it) in terms], double, modulus)),
+        "stanley": lambda: (schubert(data[0], single, k), at.sum("s", terms)),
     }[claim.name]()
 
 
@@ -188,13 +165,14 @@ def check_roots(claim, terms, modulus):
     k, n = claim.sizes[0], sum(claim.sizes)
     if math.comb(n, k) > MOST_TUPLES:
         raise Undecided(f"there are {math.comb(n, k)} tuples of roots of unity, and at most {MOST_TUPLES} are tried")
-    table = [(c, label[1] if claim.kind == "power" else label) for c, label in terms]
+    table = [(modulo(c, modulus), label[1] if claim.kind == "power" else label) for c, label in terms]
     roots = (pow(RANDOM.randrange(2, modulus), (modulus - 1) // (2 * n), modulus) for _ in itertools.count())
     root = next(it for it in roots if all(pow(it, 2 * n // q, modulus) != 1 for q in range(2, 2 * n + 1) if 2 * n % q == 0))
     rotations = lambda places: (tuple(sorted((it - first) % n for it in places)) for first in places)
     tuples = [it for it in itertools.combinations(range(n), k) if it == min(rotations(it))]
     for count, places in enumerate(tuples, 1):
-        at = point_at(modulus, [pow(root, 2 * it + (claim.kind == "power" and k % 2 == 0), modulus) for it in places])
+        xs = [pow(root, 2 * it + (claim.kind == "power" and k % 2 == 0), modulus) for it in places]
+        at = Point(modulus, lambda power, xs=xs: sum(pow(x, power, modulus) for x in xs))
         if (math.prod(map(at.s, claim.data)) - at.sum("s", table)) % modulus:
             raise Wrong(f"the two sides differ at the tuple of roots of unity number {count}")
     return f"each of {len(tuples)} tuples of roots of unity"
@@ -220,8 +198,11 @@ def must_occur(claim, label, degree):
 
 
 def compare(claim, terms):
-    """Ends if both sides are equal: what was tried, and the logarithm, base 2, of a bound for the probability that a wrong table passes."""
+    """Ends if both sides are equal: what was tried, and a bound for the probability that a wrong table passes."""
     degree, step = claim.degree(), 2 * sum(claim.sizes) or 1
+    for label, count in Counter(label for _, label in terms).items():
+        if count > 1:
+            raise Wrong(f"the label {shown(label)} stands {count} times in the table")
     for c, label in terms:
         if c:
             must_occur(claim, label, degree)
@@ -239,4 +220,5 @@ def compare(claim, terms):
     bits = max([0] + [c.numerator.bit_length() + c.denominator.bit_length() for c, _ in terms])
     bits += 20 * (size + 8) * (size + 8).bit_length() + 8 * len(" ".join(claim.words))
     # (more than 2^54/step primes of 61 bits are 1 modulo `step`)
-    return tried, 2 * math.log2(bits / 60 * step / 2.0 ** 54 + (0 if claim.sizes else size / 2.0 ** 60))
+    chance = math.ceil(2 * math.log2(bits / 60 * step / 2.0 ** 54 + (0 if claim.sizes else size / 2.0 ** 60)))
+    return f"{sum(c != 0 for c, _ in terms)} terms, at {tried}; a wrong table passes with a probability of at most 2^{chance}"

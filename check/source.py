@@ -1,163 +1,127 @@
 """Reads the declarations of a file of definitions (.antt), which lint/statements.py takes apart, as trees.
 
-A tree is a tuple whose first entry says what it is: ("name", n, path), ("number", n), ("text", bytes), ("apply", f, arguments),
-("op", sign, left, right), ("tuple", parts), ("project", e, field), ("lambda", names, body), ("let", name, value, body),
-("record", base, fields), and ("all" or "some", names, type, body) for `(x : T) → body` and `(x : T) × body`."""
+A tree is a tuple whose first entry says what it is: ("name", n, path), ("number", n), ("text", bytes), ("apply", f, arguments), also for an
+operator, ("tuple", parts), ("project", e, field), ("lambda", names, body), ("let", name, value, body), ("record", base, fields), and
+("all" or "some", names, type, body) for `(x : T) → body` and `(x : T) × body`."""
 import functools
+import itertools
 import os
 import sys
 
 sys.path.insert(1, os.path.join(os.path.dirname(os.path.abspath(__file__)), "..", "lint"))
-from statements import File, PAIRS, blocks, closing, split
+from claims import Undecided
+from statements import File, PAIRS, blocks, closing, split, telescope
 
 # the strength with which an operator binds; those of RIGHT group to the right
 OPERATORS = {"→": 25, "⊎": 30, "||": 30, "×": 35, "&&": 35, "≡": 50, "≢": 50, "≤": 50, "<": 50, "≤ℤ": 50, "==": 50, "+": 65, "-": 65, "+ℤ": 65,
              "++": 65, "∷": 67, "*": 70, "*ℤ": 70, "/": 70, "%": 70, "^": 75}
 RIGHT = {"→", "⊎", "||", "×", "&&", "++", "∷", "^"}
-ENDS = {")", "}", ",", ";", "=", ".", "in", ":", "where", None, *OPERATORS}
-
-
-class NotComputed(Exception):
-    """A definition that is not there, or cannot be read or computed, and why."""
+NO_NAMES = {"", ".", "=", ";", ",", ")", "}", ":", "in", *PAIRS, *OPERATORS}
 
 
 @functools.lru_cache(None)
 def clauses(declaration, file):
     """The clauses of a definition, each as its patterns and its body."""
-    found = []
-    for words in declaration.clauses:
-        parser = Parser(words, file)
-        head = parser.unary()
-        parser.expect("=")
-        found.append((head[2] if head[0] == "apply" else (), parser.whole()))
-    return found
+    heads = [split(words, "=")[0] for words in declaration.clauses]
+    return [(arguments_of(tree(head, file)), tree(words[len(head) + 1:], file)) for head, words in zip(heads, declaration.clauses)]
 
 
 @functools.lru_cache(None)
 def fields(declaration, file):
-    """The fields of a record or the constructors of a data type, each with its type."""
+    """The fields of a record or the constructors of a data type, each with its type, and for a constructor the number of its arguments."""
     (start, end), = declaration.lines
     lines = file.lines[start:end]
     body = next((at for at, it in enumerate(lines) if it.rstrip().endswith("where")), 0) + 1
     found = [[it for it in words if it != "pub"] for _, _, words in blocks(lines[body:])]
-    return {words[0]: Parser(words[2:], file).whole() for words in found}
+    return {words[0]: (tree(words[2:], file), sum(is_shown for *_, is_shown in telescope(words[2:])) - 1) for words in found}
 
 
-def arity(tree):
-    """The number of arguments of a function of this type."""
-    return (len(tree[1]) if tree[0] == "all" else 1) + arity(tree[3]) if tree[0] == "all" or tree[:2] == ("op", "→") else 0
+def head_of(it):
+    """The name at the head of an expression, or None."""
+    it = it[1] if it[0] == "apply" else it
+    return it[1] if it[0] == "name" else None
 
 
-class Parser:
-    """Reads the tree of a type, a pattern or an expression. What stands in braces is left out."""
+def arguments_of(it):
+    return it[2] if it[0] == "apply" else ()
 
-    def __init__(self, words, file):
-        self.words, self.file, self.at = words, file, 0
 
-    def peek(self):
-        return self.words[self.at] if self.at < len(self.words) else None
+def items(words):
+    """The words and brackets of a text, each with the place where it begins."""
+    at = 0
+    while at < len(words):
+        end = closing(words, at) + 1
+        yield at, words[at:end]
+        at = end
 
-    def has(self, word):
-        """Whether the next word is this one, which is then taken."""
-        found = self.peek() == word
-        self.at += found
-        return found
 
-    def next(self):
-        self.at += 1
-        return self.words[self.at - 1] if self.at <= len(self.words) else ""
+def is_binder(item):
+    """Whether this begins what extends to the end: `λ`, `let`, or a bracket as in `(x y : T) → body`."""
+    typed = item.index(":") if ":" in item[1:] else 0
+    return item[0] in ("λ", "let") or typed > 1 and item[0] in PAIRS and not NO_NAMES.intersection(item[1:typed])
 
-    def expect(self, word):
-        if not self.has(word):
-            raise NotComputed(f"`{word}` is missing at: " + " ".join(self.words[self.at:self.at + 8]))
 
-    def whole(self):
-        """The tree of all words that are left."""
-        found = self.expression(0)
-        return found if self.peek() is None else self.expect("the end")
+def names_in(words):
+    """The names in `x y (z : T) {u : T} ..`, without those in braces."""
+    return tuple(name for _, it in items(words) if it[0] != "{" for name in (it[1:it.index(":")] if it[1:] else it))
 
-    def separated(self, mark, end, read):
-        """What is read between the marks, up to an end."""
-        found = []
-        while not self.has(end):
-            found.append(read())
-            if not self.has(mark):
-                self.expect(end)
-                break
-        return tuple(found)
 
-    def expression(self, least=0):
-        left = self.binder() or self.unary()
-        while OPERATORS.get(self.peek(), -1) >= least:
-            sign = self.next()
-            left = ("op", sign, left, self.expression(OPERATORS[sign] + (sign not in RIGHT)))
-        return left
+def tree(words, file):
+    """The tree of a type, a pattern or an expression. What stands in braces is left out."""
+    found, parts = [], list(items(words))
+    bound = next((at for at, it in parts if is_binder(it)), len(words))
+    signs = [at for at, it in parts if at < bound and it[0] in OPERATORS]
+    if signs:
+        at = min(signs, key=lambda it: (OPERATORS[words[it]], it if words[it] in RIGHT else -it))
+        return "apply", ("name", words[at], words[at]), (tree(words[:at], file), tree(words[at + 1:], file))
+    at = 0
+    while at < len(words):
+        if at == bound:
+            found.append(bound_tree(words[at:], file))
+            break
+        at = put_atom(found, words, at, file)
+    if not found:
+        raise Undecided("an expression is missing")
+    return ("apply", found[0], tuple(found[1:])) if found[1:] else found[0]
 
-    def binder(self):
-        """`(x y : T) → body`, `(x : T) × body` or `{x : T} → body`, if one begins here."""
-        end = closing(self.words, self.at) if self.peek() in PAIRS else self.at
-        inner = self.words[self.at + 1:end]
-        typed = inner.index(":") if ":" in inner else 0
-        if not typed or ENDS.union(PAIRS).intersection(inner[:typed]):
-            return None
-        is_shown, kind = self.has("("), Parser(inner[typed + 1:], self.file).whole()
-        self.at = end + 1
-        is_some = self.has("×")
-        self.has("→")
-        body = self.expression(OPERATORS["×" if is_some else "→"])
-        return ("some" if is_some else "all", tuple(inner[:typed]), kind, body) if is_shown else body
 
-    def parameters(self):
-        """The names in `x y (z : T) ..`, up to another word."""
-        found = []
-        while self.peek() not in ENDS:
-            end = closing(self.words, self.at) if self.peek() in PAIRS else self.at
-            if self.peek() != "{":
-                found += self.words[self.at + 1:self.words.index(":", self.at)] if end > self.at else [self.peek()]
-            self.at = end + 1
-        return tuple(found)
+def put_atom(found, words, at, file):
+    """Adds the tree of the atom that begins at a place, or puts its field in the place of the last one; the result is the place after it."""
+    word, end = words[at], closing(words, at) + 1
+    if word == "(":
+        parts = tuple(tree(it, file) for it in split(words[at + 1:end - 1], ","))
+        found.append(parts[0] if len(parts) == 1 else ("tuple", parts))
+    elif word == "." and found:
+        found.append(("project", found.pop(), int(words[end]) if words[end].isdigit() else words[end]))
+        end += 1
+    elif word == "record":
+        start = words.index("{", at)
+        base, end = words[at + 1:start], closing(words, start) + 1
+        given = [(it[0], tree(it[2:], file)) for it in split(words[start + 1:end - 1], ";") if it]
+        found.append(("record", tree(base, file) if base else None, tuple(given)))
+    elif word[0] == '"':
+        found.append(("text", word[1:-1].replace("\\n", "\n").replace('\\"', '"').encode()))
+    elif word.isdigit():
+        found.append(("number", int(word)))
+    elif word != "{":
+        if word in NO_NAMES:
+            raise Undecided(f"`{word}` where an expression is wanted: {' '.join(words[at:at + 8])}")
+        path, count = file.full(words, at)
+        found.append(("name", word, path))
+        end = at + count
+    return end
 
-    def unary(self):
-        if self.has("λ"):
-            names = self.parameters()
-            self.expect(".")
-            return ("lambda", names, self.expression())
-        if self.has("let"):
-            name = self.next()
-            self.expect("=")
-            value = self.expression()
-            self.expect("in")
-            return ("let", name, value, self.expression())
-        head, arguments = self.postfix(), []
-        while self.peek() not in ENDS:
-            if self.peek() == "{":
-                self.at = closing(self.words, self.at) + 1
-            else:
-                arguments.append(self.unary() if self.peek() in ("λ", "let") else self.postfix())
-        return ("apply", head, tuple(arguments)) if arguments else head
 
-    def postfix(self):
-        found = self.atom()
-        while self.has("."):
-            field = self.next()
-            found = ("project", found, int(field) if field.isdigit() else field)
-        return found
-
-    def atom(self):
-        word = self.next()
-        if word == "(":
-            parts = self.separated(",", ")", self.expression)
-            return parts[0] if len(parts) == 1 else ("tuple", parts)
-        if word == "record":
-            base = None if self.peek() == "{" else self.postfix()
-            self.expect("{")
-            return ("record", base, self.separated(";", "}", lambda: (self.next(), self.expect("=") or self.expression())))
-        if word.startswith('"'):
-            return ("text", word[1:-1].replace("\\n", "\n").replace('\\"', '"').encode())
-        if word.isdigit():
-            return ("number", int(word))
-        if word in ENDS or word in PAIRS or not word:
-            raise NotComputed(f"`{word}` where an expression begins: " + " ".join(self.words[self.at - 1:self.at + 7]))
-        path, count = self.file.full(self.words, self.at - 1)
-        self.at += count - 1
-        return ("name", word, path)
+def bound_tree(words, file):
+    """The tree of `λ x. body`, `let x = value in body`, `(x y : T) → body`, `(x : T) × body` or `{x : T} → body`."""
+    (_, first), *parts = items(words)
+    if first == ["λ"]:
+        at = next(at for at, it in parts if it == ["."])
+        return "lambda", names_in(words[1:at]), tree(words[at + 1:], file)
+    if first == ["let"]:
+        depths = itertools.accumulate((it == ["let"]) - (it == ["in"]) for _, it in parts)
+        at = next(at for (at, _), depth in zip(parts, depths) if depth < 0)
+        return "let", words[1], tree(words[3:at], file), tree(words[at + 1:], file)
+    sign = words[len(first)]
+    body = tree(words[len(first) + (sign in ("→", "×")):], file)
+    return ("some" if sign == "×" else "all", names_in(first), tree(first[first.index(":") + 1:-1], file), body) if first[0] == "(" else body

@@ -4,7 +4,7 @@ import itertools
 import re
 from collections import Counter
 
-from claims import Undecided, Unreadable, Wrong, numbers, partition, rows_of, shown, without_last
+from claims import Undecided, Unreadable, Wrong, numbers, partition, rows_of, shown, without_zeros
 
 MOST_STEPS, MOST_LETTERS = 500000, 40
 
@@ -34,7 +34,7 @@ def tableaux(content, most):
     for shape, count in tableaux(content[:-1], most).items() if content else ():
         for lower in itertools.product(*(range(b, a + 1) for a, b in zip(shape, (*shape[1:], 0)))):
             first = sum(shape) + content[-1] - sum(lower)
-            larger = without_last(0, (first, *lower))
+            larger = without_zeros((first, *lower))
             if first >= sum(shape[:1]) and (most is None or len(larger) <= len(most) and all(a <= b for a, b in zip(larger, most))):
                 found[larger] += count
         if len(found) > MOST_STEPS // 20:
@@ -44,16 +44,12 @@ def tableaux(content, most):
 
 def coefficient(outer, left, right):
     """The coefficient of s_outer in the product of two Schur functions: a signed sum of Kostka numbers."""
-    if sum(outer) != sum(left) + sum(right) or max(len(left), len(right)) > len(outer):
-        return 0
     left, right = sorted((left, right), key=sum)
     return sum(c * tableaux(content, left)[left] for content, c in signed_contents(outer, right).items())
 
 
 def count_lattice_tableaux(outer, inner):
     """The number of lattice tableaux of a skew shape: a signed sum of the numbers of tableaux of any shape with a content."""
-    if len(inner) > len(outer) or any(a < b for a, b in zip(outer, inner)):
-        return 0
     return sum(c * sum(tableaux(content, None).values()) for content, c in signed_contents(outer, inner).items())
 
 
@@ -61,28 +57,24 @@ def count_lattice_tableaux(outer, inner):
 
 def greene(word):
     """The shape of a word: the first k rows have as many cells as k weakly increasing subsequences without a common place can have places
-    (Greene). They are found as flows of greatest gain in the graph of the places."""
-    n = len(word)
+    (Greene). They are found as flows of greatest gain in the graph of the places: each i has an edge from 2i to 2i + 1, whose gain is 1."""
+    n, shape = len(word), []
     if n > MOST_LETTERS:
         raise Undecided(f"words of more than {MOST_LETTERS} letters are not checked")
-    source, sink, edges, shape = 2 * n, 2 * n + 1, [], []
+    edges = {(2 * i + 1, 2 * j): 0 for i in range(n) for j in range(i + 1, n) if word[i] <= word[j]}
     for i in range(n):
-        edges += [[source, 2 * i, 1, 0], [2 * i, 2 * i + 1, 1, 1], [2 * i + 1, sink, 1, 0]]
-        edges += [[2 * i + 1, 2 * j, 1, 0] for j in range(i + 1, n) if word[i] <= word[j]]
+        edges.update({("start", 2 * i): 0, (2 * i, 2 * i + 1): 1, (2 * i + 1, "end"): 0})
     while sum(shape) < n:
-        gains, came, changed = {source: 0}, {}, True
-        while changed:
-            changed = False
-            for edge in edges:
-                start, end, room, gain = edge
-                for one, other, room, gain in ((start, end, room, gain), (end, start, 1 - room, -gain)):
-                    if room and one in gains and gains[one] + gain > gains.get(other, -1 - n):
-                        gains[other], came[other], changed = gains[one] + gain, (one, edge), True
-        at = sink
-        while at != source:
-            at, edge = came[at]
-            edge[2] = 1 - edge[2]
-        shape.append(gains[sink])
+        gains, came, better = {"start": 0}, {}, True
+        while better:
+            better = [(one, other) for (one, other), gain in edges.items() if one in gains and gains[one] + gain > gains.get(other, -n)]
+            gains.update({other: gains[one] + edges[one, other] for one, other in better})
+            came.update({other: one for one, other in better})
+        at = "end"
+        while at != "start":
+            one, at = at, came[at]
+            edges[one, at] = -edges.pop((at, one))  # (an edge that is taken can be given back)
+        shape.append(gains["end"])
     return tuple(shape)
 
 
@@ -101,8 +93,8 @@ def must_be_pair(word, p, q=None):
     letters up to it, and of the word up to it."""
     pairs = [("P", p, word, lambda most: [a for a in word if a <= most]), ("Q", q, range(1, len(word) + 1), lambda most: word[:most])]
     for name, rows, entries, part in pairs[:1 if q is None else 2]:
-        if not is_tableau(rows, tuple(map(len, rows))) or sorted(entries) != sorted(a for row in rows for a in row):
-            raise Wrong(f"{name} is no tableau with the right entries")
+        if not all(rows) or not is_tableau(rows, tuple(map(len, rows))) or sorted(entries) != sorted(a for row in rows for a in row):
+            raise Wrong(f"{name} is no tableau of the letters that it must have")
         for most in sorted(set(entries)):
             if greene(part(most)) != tuple(it for it in (sum(a <= most for a in row) for row in rows) if it):
                 raise Wrong(f"the entries up to {most} have another shape in {name}")
@@ -116,22 +108,28 @@ def lines_in(text, count):
 
 
 def check_text(claim, text):
-    """Checks the text of tableaux or of a word; the result says how."""
+    """Checks the text of a number, of tableaux or of a word; the result says how."""
     data = claim.data
+    if claim.name == "coef":
+        if not re.fullmatch(r"\s*(-(?=0*[1-9]))?[0-9]{1,4000}\s*", text):
+            raise Unreadable("a single number is wanted")
+        if int(text) != coefficient(*data):
+            raise Wrong(f"the number is {coefficient(*data)}, a signed sum of Kostka numbers")
+        return "a signed sum of Kostka numbers"
     if claim.name == "tab":
         return check_tableaux(*data[:2], text, data[2:])
     if claim.name == "rsk":
         lines = lines_in(text, 2)
         if [it[:2] for it in lines] != ["P ", "Q "]:
             raise Unreadable("a line `P ..` and a line `Q ..` are wanted")
-        must_be_pair(data[0], *(rows_of(it[2:].split(), False) for it in lines))
+        must_be_pair(data[0], *(rows_of(it[2:].split()) for it in lines))
     elif claim.name == "unrsk":
         must_be_pair(numbers(lines_in(text, 1)[0].split()), *data)
     elif claim.name == "rect":
         outer, inner, rows = data
         if not is_tableau(rows, outer, inner):
             raise Unreadable("the tableau of the command is not semistandard, or not of the shape")
-        must_be_pair([a for row in reversed(rows) for a in row], rows_of(lines_in(text, 1)[0].split(), False))
+        must_be_pair([a for row in reversed(rows) for a in row], rows_of(lines_in(text, 1)[0].split()))
     else:
         for i, line in enumerate(lines_in(text, len(data[0]) + 1)):
             shapes = [partition(numbers(re.findall("[0-9]+", it))) for it in line.split(" ")]
@@ -145,19 +143,15 @@ def check_text(claim, text):
 
 def check_tableaux(outer, inner, text, last):
     """Checks the lines of `tab`: lattice tableaux, in their order, and their number."""
-    readings = []
+    readings, starts = [], inner + (0,) * len(outer)
     for at, line in enumerate([] if text == "0\n" else text.rstrip("\n").split("\n"), 1):
         rows = rows_of(line.split())
         if not is_tableau(rows, outer, inner):
             raise Wrong(f"line {at} is no tableau of the shape")
-        starts = inner + (0,) * len(rows)
-        cells = sorted((-starts[i] - j, i, a) for i, row in enumerate(rows) for j, a in enumerate(row))
-        counts = Counter({0: len(cells)})
-        for _, _, a in cells:
-            counts[a] += 1
-            if counts[a] > counts[a - 1]:
-                raise Wrong(f"line {at} is no lattice tableau")
-        readings.append([a for _, _, a in cells])
+        reading = [a for _, _, a in sorted((-starts[i] - j, i, a) for i, row in enumerate(rows) for j, a in enumerate(row))]
+        if any(a > 1 and reading[:i].count(a) >= reading[:i].count(a - 1) for i, a in enumerate(reading)):
+            raise Wrong(f"line {at} is no lattice tableau")
+        readings.append(reading)
     if any(a >= b for a, b in zip(readings, readings[1:])):
         raise Wrong("the tableaux are not in the order of their column readings, or one stands twice")
     if last:

@@ -1,13 +1,12 @@
 """The values that are tried for what propositions say of all values, or of some value. Where the definitions bound these by what they say of them, all
 that can fit are tried; what is tried otherwise is noted, to be printed."""
-import functools
 import itertools
 import re
 import types
 
 import words
-from claims import BASES, Reader, shown
-from meaning import Definitions, NotComputed
+from claims import BASES, Undecided, Unreadable, shown, tree_of
+from meaning import Definitions
 from source import fields
 
 def readings(form, given):
@@ -35,8 +34,8 @@ def values_of_word(kind, word):
     if kind[0] == "target":
         return [(BASES[text],)] if text in BASES else []
     try:
-        return [phrase(Reader(text).whole())]
-    except ValueError:
+        return [phrase(tree_of(text))]
+    except Unreadable:
         return []
 
 
@@ -73,7 +72,8 @@ TRIED = {
     "GoesTo.left": REMOVAL, "HasNoRemoval.left": REMOVAL, "GoesTo.t": SIGNS, "ReducesTo.sign": SIGNS,
     "ReducesTo.end": ("each partition inside the shape", lambda trial, of: inside(of.shape)),
     "IsRimHookReduction.reductions": ("", lambda trial, of: trial.reductions(of.k, of.n, of.classical)),
-    "IsQuantumStep.reductions": ("", lambda trial, of: itertools.product(*(trial.step(of.k, of.n, t[0][1], of.factor) for t in of.terms))),
+    "IsQuantumStep.reductions": ("", lambda trial, of: itertools.product(*(trial.reductions(
+        of.k, of.n, trial.of("Products.classical_product", of.k, (t[0][1], of.factor))) for t in of.terms))),
     "HasNoSquare.i": ("", lambda trial, of: trial.cells(of)),
     "IsConnected.i": ("", lambda trial, of: (a + b for a, b in itertools.product(trial.cells(of), repeat=2))),
     "IsConnected.path": ("a shortest path of cells", lambda trial, of: path(trial.cells(of), (of.i, of.j), (of.k, of.l))),
@@ -96,7 +96,8 @@ class Trial:
     def begin(self, most):
         """Forgets what was found for an earlier answer."""
         self.most, self.notes, self.reason = most, {}, ""
-        self.definitions.forget()
+        for it in self.definitions.decided:  # (what propositions gave depends on what was tried)
+            it.cache_clear()
 
     def of(self, path, *arguments):
         """The value of a definition."""
@@ -119,9 +120,6 @@ class Trial:
         found = ([it for it in (words.NONE, *some(label)) if self.of("RimHookReduction.ReducesTo", k, n, label, it)] for label, _ in terms)
         return itertools.product(*found)
 
-    def step(self, k, n, *factors):
-        return self.reductions(k, n, self.of("Products.classical_product", k, factors))
-
     def slides(self, filling):
         """The rows at which slides begin, and the tableau to which they lead, as often as one can begin."""
         inner = filling["inner"]
@@ -139,14 +137,13 @@ class Trial:
         return found if len(names) > 1 or note == "0 to {}" else ((it,) for it in found)
 
     def nothing(self, where, name):
-        raise NotComputed(f"{where} speaks of all `{name}`, and nothing bounds these")
+        raise Undecided(f"{where} speaks of all `{name}`, and nothing bounds these")
 
     def for_all(self, names, values, holds):
         for it in values:
             self.reason = ""
             if not holds(*it):
-                if self.reason:
-                    self.reason = f"{' and '.join(names)} = {' and '.join(map(str, it))}: {self.reason}"
+                self.reason = self.reason and f"{' and '.join(names)} = {' and '.join(map(str, it))}: {self.reason}"
                 return False
         return True
 

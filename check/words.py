@@ -15,19 +15,12 @@ def entry_or(items, i, default):
     return items[i] if i < len(items) else default
 
 
-def exchanged(items, i, j):
-    """The list with two entries exchanged; after the end is the first entry."""
-    places = {i: j, j: i}
-    return tuple(entry_or(items, places.get(at, at), items[0]) for at in range(len(items)))
-
-
 NONE, LESS, EQUAL, GREATER = ("None",), ("Less",), ("Equal",), ("Greater",)
 # name: (number of arguments, function)
 WORDS = {
     "codes": (1, tuple),
     "decimal": (1, lambda n: tuple(str(n).encode())),
     "signed_decimal": (1, lambda n: tuple(str(n).encode())),
-    "cond": (3, lambda test, a, b: a if test else b),
     "not": (1, lambda a: not a),
     "min": (2, min),
     "max": (2, max),
@@ -46,8 +39,8 @@ WORDS = {
     "replicate": (2, lambda n, it: (it,) * n),
     "take": (2, lambda n, items: items[:n]),
     "drop": (2, lambda n, items: items[n:]),
-    "remove": (2, lambda items, i: items[:i] + items[i + 1:]),
-    "swap": (3, exchanged),
+    # (the list with two entries exchanged; after the end is the first entry)
+    "swap": (3, lambda items, i, j: tuple(entry_or(items, {i: j, j: i}.get(at, at), items[0]) for at in range(len(items)))),
     "slice_index": (2, lambda items, i: entry_or(items, i, 0)),
     "slice_index_or": (3, entry_or),
     "slice_get": (2, lambda items, i: ("Some", items[i]) if i < len(items) else NONE),
@@ -55,17 +48,24 @@ WORDS = {
     "join_with_byte": (2, lambda byte, texts: tuple(b for text in texts for b in (byte, *text))[1:]),
     "option_map": (2, lambda f, it: it if it == NONE else ("Some", f(it[1]))),
     "option_map_or": (3, lambda f, it, d: d if it == NONE else f(it[1])),
-    "option_or": (2, lambda a, b: b if a == NONE else a),
-    "unwrap_or": (2, lambda it, d: d if it == NONE else it[1]),
     "IsTrue": (1, bool),
-    "IfSome": (2, lambda it, holds: it == NONE or holds(it[1])),
 }
-# sign: the code of its value. `&&`, `||`, `×`, `⊎` and `→` look at their second side only if they must
+# sign: the code of its value. `&&`, `||`, `×`, `⊎`, `→` and `cond` look at a side only if they must
 SIGNS = {"+": "({} + {})", "*": "({} * {})", "^": "({} ** {})", "-": "max({} - {}, 0)", "/": "quotient({}, {})", "%": "rest({}, {})",
          "+ℤ": "({} + {})", "*ℤ": "({} * {})", "==": "({} == {})", "++": "({} + {})", "&&": "({} and {})", "||": "({} or {})",
          "≡": "({} == {})", "≢": "({} != {})", "≤": "({} <= {})", "<": "({} < {})", "×": "({} and {})", "⊎": "({} or {})",
-         "→": "(not {} or {})"}
-SCOPE = {"quotient": lambda a, b: a // b if b else 0, "rest": lambda a, b: a % b if b else a, "Record": Record}
+         "→": "(not {} or {})", "cond": "({1} if {0} else {2})"}
+SCOPE = {"quotient": lambda a, b: a // b if b else 0, "rest": lambda a, b: a % b if b else a, "Record": Record,
+         **{f"word_{at}": function for at, (_, function) in enumerate(WORDS.values())}}
+
+
+def call(place, count):
+    """The number of arguments of a function, and the code of its value."""
+    return count, f"{place}({', '.join(['{}'] * count)})"
+
+
+CODES = {**{name: (code.count("{"), code) for name, code in SIGNS.items()},
+         **{name: call(f"word_{at}", count) for at, (name, (count, _)) in enumerate(WORDS.items())}}
 
 
 def constructor(name, arity):
