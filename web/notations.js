@@ -21,17 +21,18 @@ const NOTATIONS = String.raw`
 > == ⟩ 〉 \rangle
 ∪ == \cup
 ⊗ == \otimes
+⊠ == \boxtimes
 ⊕ == \oplus
 □ == \square \Box
-⊥ == \perp
-schubert == schub
+⊥ == \perp perp
+schubert == schub Sch
 GL == gl
-∘ == \circ
+∘ == \circ circ
 ∅ == \emptyset \varnothing
 ' == \prime
 : == \colon
 T == \top
-to == → -> \rightarrow \mapsto
+to == → -> => \rightarrow \mapsto via
 in == ∈
 hash == #
 𝔖 == frakS calS scrS
@@ -54,10 +55,13 @@ polynomials == polynomial
 frac == tfrac dfrac
 widehat == hat
 qcoh == qh
+QH == qH
+rsk == RS
 2 == two
 3 == three third
 4 == four fourth
 5 == five fifth
+6 == six
 blank == \quad \qquad $
 nothing == the please 's me \left \right \big \Big \bigl \bigr \displaystyle \limits
 Family "m, e, h, p or s" := m e h p s
@@ -70,6 +74,7 @@ Dot "a times sign" ~= * ∗ ⊗ ∪ ∩
 Ast "a times sign" ~= * ∗
 Over ~= / ∖
 Greek ~= λ μ ν α β ρ
+O_ ~= ∘ o
 
 # ---------------------------------------------------------------- numbers and lists
 Part "a number" = NUM -> part  # 12: one number, since commas or blanks part it from others
@@ -115,23 +120,26 @@ Lam "a partition" = List -> 1
   | List ~^ ~Prime -> conjugate
   | conjugate|transpose of? Lam -> conjugate
   | partition ( Square ) -> 3  # Sage
-Sub = Inside -> 1
-  | Round -> 1
+Sub = Below -> 1
   | Square -> 1
+Below = Inside -> 1
+  | Round -> 1
   | Empty -> 1
   | Inside Prime -> conjugate
   | Round Prime -> conjugate
   | yng ( Inside ) -> 3
   | ydiagram { Inside } -> 3
   | □ -> ones "1"
-Tight = NUM ~, ~NUM -> join  # s_2,1: an index without braces
+Tight = NUM -> part  # an index without braces
   | Tight ~, ~NUM -> join
-Index "an index" = ~_ ~{ Sub } -> 3  # s_{2,1}
+Index "an index" = ~_ ~{ Below } -> 3  # s_{2,1}
+  | ~_ ~{ Square } -> ? 3  # s_{[2,1]}: or a character of O(n)
   | ~_ ~NUM -> digits  # s_21
   | ~_ ~Round -> 2
   | ~_ ~Square -> 2
   | ~_ ~Empty -> 2
-  | ~_ ~Tight -> ? 2  # (a comma with two readings)
+  | ~_ ~NUM ~, ~Tight -> ? join  # s_2,1 (a comma with two readings)
+  | ~. ~Square -> 2  # s.[2,1], Magma
   | ~Square -> 1  # s[2,1]
   | ~[ ~] -> list
   | ~∅ -> list
@@ -165,6 +173,7 @@ Arg "a partition" = Lam -> 1  # in a phrase
   | Blanks -> 1
   | partition Arg -> 2
   | schur functions Arg -> 3
+  | Greek = Lam -> 3  # λ=(2,1)
 By = and|with|by -> ""
 Both "two partitions" = Arg By Arg -> list
   | Arg , and? Arg -> list
@@ -175,12 +184,27 @@ Atom "a symmetric function" = Family Index -> atom
   | ch ~( S Above ) -> atom s 4  # of a Specht module
   | frobenius characteristic of? S Above -> atom s 5
   | symmetricfunctions ( Ring ) . Family ( ) Index -> atom
+  | Family Index ~[ X ] -> atom
 Ring = QQ|ZZ -> ""
-Base = Atom -> 1
-  | ( Sum ) -> paren
-Power = Base -> 1
+Power = Atom -> 1
+  | Paren -> 1
+  | Det -> 1
   | SM IndexPower -> atom  # s_1^3 (and no further exponent)
-  | Base Exp -> powerOf
+  | Atom Exp -> powerOf
+  | Paren Exp -> powerOf
+Paren = ( Sum ) -> paren
+Det = det of? Matrix -> determinant  # of Jacobi and Trudi
+  | vmatrix Matrix_ vmatrix -> determinant
+Matrix = [ DRows ] -> 2
+  | ( DRows ) -> 2
+  | ( [ DRows ] ) -> 3
+  | ( Matrix_ ) -> 2
+Matrix_ = DRow -> list
+  | Matrix_ ;|\\ DRow -> add
+DRows = [ DRow ] -> list 2
+  | DRows ,? [ DRow ] -> add 1 4
+DRow = Sum -> list
+  | DRow ,|& Sum -> add
 Number = NUM -> scalar
 Scalar = Number -> 1
   | Number Exp -> powerOf
@@ -197,6 +221,7 @@ Sum "an expression" = Term -> 1
   | - Term -> minus
   | Sum Sign Term -> plus
 Basis "a basis" = Family -> 1
+  | Family ~_ i -> 1
   | Family ~_ Greek -> 1  # m_λ
   | Family ~_ ~{ Greek } -> 1
   | monomial|monomials -> word m
@@ -210,6 +235,8 @@ Basis "a basis" = Family -> 1
   | Basis - basis -> 1  # s-basis
   | Basis symmetric functions|polynomials -> 1
 In = To -> ""
+  | = ?? To -> ""  # = ? in h
+  | expanded|written|expressed To -> ""
   | in basis -> ""
   | in terms of -> ""
   | as a? sum|combination of -> ""
@@ -218,9 +245,11 @@ In = To -> ""
   | = Σ ?? -> ""  # h_{22} = Σ m_λ
   | = ? -> ""
   | = Σ χ ~^ Greek ~( Inside ) -> ""
-Convert = expand|write|express|convert|rewrite -> ""
+Convert = expand|write|express|convert|rewrite|transform -> ""
+  | change basis of -> ""
 Plethysm "a plethysm" = Power ~[ Sum ] -> composed  # h_2[h_3]
-  | Power ∘ Power -> composed
+  | Power O_ Power -> composed
+  | plethysm OfLam O_ OfLam -> composed
   | Power composed with Power -> composed
   | Power ( Sum ) -> composed  # h_2(h_3): or a product
   | Power . plethysm ( Sum ) -> composed  # Sage
@@ -249,16 +278,32 @@ Question = Omega -> bare
   | Convert? Skewed -> skew
   | JacobiTrudi OfArg -> expand h
   | JacobiTrudi σ OfIndex -> expand h
-  | tos ( Sum ) -> expand s  # Stembridge's SF, and Macaulay2
-  | toe ( Sum ) -> expand e
-  | toh ( Sum ) -> expand h
-  | top ( Sum ) -> expand p
-  | tom ( Sum ) -> expand m
+  | ToBasis ( Sum ) -> expand 1 3
+  | ToBasis ␣Atom -> expand
+  | ToBasis ( Composed ) -> plethysm 1 3
+  | Composed In Basis -> plethysm 3 1
+  | Family ~( Composed ) -> plethysm
+  | symmetrica? .? t ~_ InSymmetrica ~_ InSymmetrica ( List ) -> convert 5 7 9
+  | Convert? Atom from Family In Basis -> fromTo
+  | scalar ( Sum , Sum ) -> inner
+ToBasis = tos -> word s  # Stembridge's SF, and Macaulay2
+  | toe -> word e
+  | toh -> word h
+  | top -> word p
+  | tom -> word m
+Composed = plethysm ( Arguments ) -> 3
+InSymmetrica = schur -> word s
+  | powsym -> word p
+  | homsym -> word h
+  | elmsym -> word e
+  | monomial -> word m
 JacobiTrudi = giambelli|jacobi -? trudi? formula|determinant? of|for? -> ""
 SProduct = S Index -> list
   | SProduct Dot? S Index -> add 1 4
   | S Index Exp -> listPower
 InVariables = in NUM variables|vars|variable -> 2
+  | with|in at? most? NUM rows|parts -> 4
+  | restricted|truncated to NUM rows|variables -> 3
 SPair = S Index and S Index -> list 2 5
 Several = Power , Power -> timesText
   | Several , Power -> timesText
@@ -272,10 +317,13 @@ SVar = SAtom ~( Letters ) -> inLetters  # s_{2,1}(x_1,x_2)
 SVars = SVar -> list
   | SVars *|⊗? SVar -> add
 Product = product of? Both -> 3
+  | symmetrica . mult_schur_schur|outerproduct_schur ( Lams ) -> 5
   | multiply Both -> 2
-  | littlewood - richardson product|rule of? for? Both -> 6
+  | littlewood - richardson product|rule of? for? Both -> 7
   | LR|lr product|rule of? for? Both -> 5
 Question = Sum InVariables -> inVariables
+  | Sum ForGl -> ! inVariables
+  | CompactProduct -> ? product  # 21*21: or a product of numbers
   | SProduct -> ? multOfS  # S_{3,2}*S_{2,1}: of Schur, or of Schubert
   | product of? SPair -> ? multOfS
   | SVars -> multInLetters
@@ -283,6 +331,8 @@ Question = Sum InVariables -> inVariables
   | multiply And -> bare 2
   | Product -> product
   | Product InVariables -> product
+CompactProduct = Compact * Compact -> list
+  | CompactProduct * Compact -> add
 # skew shapes, coefficients, numbers
 Inner = Lam -> 1
   | Commas -> 1
@@ -306,34 +356,45 @@ Slashed = s Slash -> 2
   | s Index . skew_by ( s Index ) -> list 2 7  # Sage
   | s ~( skewpartition ( [ Lams ] ) ) -> 6
   | s . skew_schur ( Lams ) -> 5
+  | skew ( s Index , s Index ) -> inOrder 4 7  # Maple: the second by the first
+  | symmetrica . part_part_skewschur ( Lams ) -> 5
   | S ~^ ~{ Shapes } -> 4  # a skew Specht module
 SkewName = skew schur? functions? of? for? -> ""
+  | skew specht module|modules? of? -> ""
 Skewed = Slashed -> 1
   | SkewName Slashed -> 2
   | SkewName shape? Both -> 3
   | SkewName shape? Skew -> 3
 Question = Slashed InVariables -> skew
-  | Slashed ~( Letters ) -> skew
+  | Convert? Slashed ~( Letters ) -> skew
+  | ribbon schur? functions? R|r Index -> ribbon 5
+  | < s Index , Slashed > -> tabContent 5 3
+  | < Slashed , s Index > -> tabContent 2 5
   | Inner Over Inner -> shapeOnly 1 3  # 321/21
   | Coproduct EqualsSum? -> coproduct
-Coproduct = Δ of Arg -> 3
+Coproduct = Δ|comultiplication of Arg -> 3
   | Δ s Index -> 3
   | Δ ( s Index ) -> 4
   | s Index . coproduct ( ) -> 2
   | coproduct of|:? Arg -> 3
   | s Index ~( x , y ) ProductsOf -> 2
-  | s Index ~( x , y ) -> ? 2  # or the polynomial in two variables
+  | s Index ~( x|X ,|; y|Y ) -> ? 2  # or the polynomial in two variables
+  | s Index ~[ x|X|A + y|Y|B ] -> 2
   | Sch Index ~( V ⊕ W ) -> 2
   | Sch ~^ ~{ Sub } ~( V ⊕ W ) -> 4
 EqualsSum = = Σ s ~_ ~{ Greek / Greek } ⊗ s ~_ Greek -> ""
 ProductsOf = , in products s ~_ ~{ μ } ( x ) s ~_ ~{ ν } ( y ) -> ""
   | , in products s μ ( x ) s ν ( y ) -> ""
 Cell = Compact -> 1
+  | Greek = List -> 3
   | Round -> 1
   | Square -> 1
   | { Inside } -> 2
   | ∅ -> list
+Spaced = Compact -> 1
+  | Blanks -> 1
 Cells = Cell , Cell -> list  # 21,21
+  | Spaced , Spaced -> list  # 2^2,2 1^2
   | Cell ␣Cell -> list
   | Bracketed ~Bracketed -> list
 Inners = Inner ; Inner -> list
@@ -343,22 +404,33 @@ Pair "two partitions" = Cells -> 1
 Bracketed = Round -> 1
   | Square -> 1
 Down2 = ~_ ~{ Pair } -> 3
+Monomial = XLetter Exp? -> monomial
+  | Monomial *? XLetter Exp? -> monomialWith 1 3 4
 CoefName = LR coefficient|number -> ""
   | littlewood - richardson coefficient|number -> ""
 Coefficient = c Above Down2 -> coef
   | c Down2 Above -> coef 3 2
-  | c ~( Cell ; Cells ) -> coef
-  | c ~( Inner ; Inners ) -> coefWithPair
-  | c ~( Cells ; Cell ) -> coefWithPair 5 3
+  | c|LR ~( Cell ; Cells ) -> coef 3 5
+  | c|LR ~( Inner ; Inners ) -> coefWithPair 3 5
+  | c|LR ~( Cells ; Cell ) -> coefWithPair 5 3
+  | c ~( Cell , Cells ) -> coefWithPair
 Question = CoefName? for? of? Coefficient -> 4
   | CoefName for? of? Cell ,|;|: Pair -> coefWithPair
   | lrcoefficient [ Lam , Lams ] -> coefWithPair
   | c Down2 AllNu? -> ? product 2  # no outer partition: all of them
-  | c Down2 ~^ Greek AllNu? -> product 2
+  | c Down2 AllAbove AllNu? -> product 2
+  | c AllAbove Down2 AllNu? -> product 3
+  | c Above ~_ ~{ Cell ,? Greek } -> skewPair
+  | c Above Down2 -> ? ofSchubert  # c^{231}_{132,213}
+  | c Down2 Above -> ? ofSchubert 3 2
 AllNu = for all Greek -> ""
+AllAbove = ~^ Greek -> ""
+  | ~^ ~{ Greek } -> ""
 CoefOf = coefficient|multiplicity|mult of? -> ""
   | CoefName of? for? -> ""
 Question = CoefOf Atom in Term -> coefficientIn
+  | CoefOf Monomial in Term -> coefficientAt m
+  | CoefOf Atom in product of? And -> coefficientIn 2 6
   | CoefOf Atom in Plethysm -> coefficientInPlethysm
   | [ Atom ] Sum -> coefficientIn  # [s_λ] s_μ s_ν
   | CoefOf Arg in Both -> coef
@@ -366,13 +438,16 @@ Question = CoefOf Atom in Term -> coefficientIn
   | CoefOf S Above in Specht -> coef
   | CoefOf S Above in ind ( Specht ) -> coef
   | mult|multiplicity of? weight Arg in V Index -> kostkaOf 7 4
+  | weight multiplicity of? Arg in V Index -> kostkaOf 4 7
   | weight multiplicities of? V OfIndex -> expand m
   | weight multiplicities of? V OfIndex ForGl -> ! expand m 5
 Kostka = K|kostka ~( Pair ) -> kostka
+  | K ~_ ~{ Greek ,? Cell } -> allKostka h
+  | K ~_ ~{ Cell ,? Greek } -> allKostka m
   | K|kostka ~( Inner ; Inner ) -> kostkaOf  # K(3,1; 2,2)
   | K Down2 -> kostka  # K_{31,1111}
   | K ~_ ~{ Shapes ,? Cell } -> kostkaSkew 4 6
-KostkaName = kostka number|coefficient? of? for? -> ""
+KostkaName = kostka number|numbers|coefficient? of? for? -> ""
 Question = Kostka -> 1
   | KostkaName Kostka -> 2
   | Symmetrica? kostka_number ( Lams ) -> kostka  # Sage
@@ -391,7 +466,8 @@ Semistandard = ssyt|ssyts -> ""
 Standard = syt|syts -> ""
   | standard young? tableaux -> ""
 OfShape = of -> ""
-  | of? shape -> ""
+  | of? skew? shape -> ""
+  | of? skew? shape? Greek / Greek = -> ""
 OfContent = ,|and|with? content|weight|type -> ""
 Question = Count Semistandard OfShape? Arg OfContent Arg -> kostkaOf 4 6
   | Count Semistandard OfShape? Skew OfContent Arg -> kostkaSkew 4 6
@@ -399,6 +475,9 @@ Question = Count Semistandard OfShape? Arg OfContent Arg -> kostkaOf 4 6
   | Count tableaux OfShape? Arg -> ? standardOf 4  # standard, or semistandard
   | standardtableaux ( Square ) Cardinality -> standardOf
   | semistandardtableaux ( Square , Square ) Cardinality -> kostkaOf
+  | semistandardtableaux ( shape = Square , eval = Square ) Cardinality -> kostkaOf
+  | len ( standardtableaux ( Square ) ) -> standardOf
+  | partition ( Square ) . dimension ( ) -> standardOf
   | Count Standard OfShape? Skew -> standardSkew 4
   | Count syt ( Arg ) -> standardOf 4
   | numberoftableaux [ Lam ] -> standardOf  # Mathematica
@@ -411,19 +490,22 @@ Question = Count Semistandard OfShape? Arg OfContent Arg -> kostkaOf 4 6
 Question = f Upper -> standardOf  # f^{(3,2,1)}
   | f ~^ ~Digits -> ? standardOf  # f^2: or a square
   | f ~^ ~{ Shapes } -> standardSkew 4
-  | hook length formula? of|for|: dimension? of? Arg -> standardOf 7
+  | hook length formula? of|for|:? dimension? of? Arg -> standardOf 7
   | dimension of? specht module? Arg -> standardOf 5
+  | dimension of? specht module? S Upper -> standardOf 6
   | dimension of? S Upper -> orSize
   | dimension of? S ~^ ~Digits -> ? standardOf
   | dimension of? irrep|representation|module|irreducible specht|representation|module? Arg -> ? standardOf 5  # of which group?
-  | dimension of? Irreducible? labelled? by? OfSize -> standardOf
+  | dimension of? Irreducible? Labelled? OfSize -> standardOf
   | dimension of? Arg -> ? standardOf 3
+Labelled = labelled|labeled|indexed by? -> ""
 Irreducible = irrep|representation|module -> ""
   | irreducible|specht representation|module? -> ""
 OfS = of|for symmetric? group? S ~_ ~NUM -> 6
   | of|for symmetric? group? S ~_ ~{ NUM } -> 7
 OfSize = Arg OfS -> ofSize 2 1
-  | OfS of|for|labelled? by? Arg -> ofSize
+  | OfS of|for? Arg -> ofSize
+  | OfS Labelled Arg -> ofSize
 Character = character of? -> ""
   | value of character of? -> ""
   | character value of? -> ""
@@ -431,7 +513,7 @@ Character = character of? -> ""
 Module_ = Arg -> 1
   | for Arg -> 2
   | OfSize -> 1
-AtClass = at|on|for cycle|conjugacy? type|class? -> ""
+AtClass = evaluated? at|on|for cycle|conjugacy? type|class? of? cycle? type? -> ""
 Cycle = NUM - cycle -> 1
   | transposition -> word "2"
   | identity -> word "1"
@@ -439,11 +521,14 @@ Question = χ Above ~( Inside ) -> characterOf  # χ^{31}(22)
   | χ Above ~( Round ) -> characterOf
   | χ Above Lower -> characterOf
   | χ Lower Above -> characterOf 3 2
+  | χ Lower ~( Inside ) -> characterOf
+  | χ Lower ~( Round ) -> characterOf
+  | χ ~( Inner ; Inner ) -> characterOf
   | χ Above -> ? characterOnly
   | χ ( Lam , Lam ) -> characterOf  # Maple
   | χ Square Square -> characterOf
   | Symmetrica? charvalue ( Lam , Lam ) -> characterOf
-  | Character? χ Above AtClass Arg -> characterOf 3 5
+  | Character? χ Above OfS? AtClass Arg -> characterOf 3 6
   | Character? χ Above AtClass Cycle -> characterAtCycle 3 5
   | Character Module_ AtClass Arg -> characterOf
   | Character Module_ AtClass Cycle -> characterAtCycle
@@ -467,8 +552,9 @@ Perm "a permutation" = ~_ ~{ PSub } -> 3
   | ~( Square ) -> 2
   | ~[ { Inside } ] -> 3
   | ~NUM -> digits
-  | ~Tight -> ? 1  # S10,1,2,..
-SPoly "a Schubert polynomial" = Sch Perm -> 2
+  | ~NUM ~, ~Tight -> ? join  # S10,1,2,..
+SPoly "a Schubert polynomial" = Sch|schubert Perm -> 2
+  | symmetrica? .? t_schubert_polynom ( SPoly ) -> 5
   | schubertpolynomialring ( Ring ) ( Square ) -> 6
   | SPoly . expand ( ) -> 1
   | { Sch } Perm -> 4  # {\mathfrak S}_w
@@ -482,12 +568,25 @@ SPolys = SPoly -> list
 DPolys = DPoly -> list
   | DPolys Dot? DPoly -> add
   | DPoly Exp -> listPower
+InFlags = in cohomology? of? Fl ( NUM ) -> ""
+  | in H Star ~( Fl ( NUM ) ) -> ""
+  | in H ~_ T ~^ ~Ast ~( Fl ( NUM ) ) -> ""
+Monk = monk rule|formula? of|for|:? -> ""
 OfW = w = -> ""
+  | F ~_ w for|with w = -> ""
   | permutation -> ""
+InSchubert = In schubert polynomials|basis|classes -> ""
 Question = SPolys -> schubertProduct
+  | Convert? SPolys InSchubert -> schubertProduct 2
+  | Monk SPolys -> schubertProduct
+  | multiply SPolys By SPoly -> permuted schubmult 2 4
+  | multiply schubert polynomials of? for? WOther -> permuted schubmult
+  | double schubert polynomials|product DPolys -> permuted dschubmult
+  | product of? double schubert polynomials of? for? WOther -> permuted dschubmult
+  | equivariant product of? schubert? classes? WOther InFlags? -> ? permuted dschubmult 6
+  | symmetrica . mult_schubert_schubert WOther -> permuted schubmult
   | S Index -> ? schurOfS  # S_{321}: of Schubert, or of Schur
-  | SPolys in cohomology? of? Fl ( NUM ) -> ? schubertProduct 1
-  | SPolys in H Star ~( Fl ( NUM ) ) -> ? schubertProduct 1
+  | SPolys InFlags -> ? schubertProduct
   | DPolys -> permuted dschubmult
   | product of? schubert? polynomials? SPolys By SPoly -> permuted schubmult 5 7
   | schubert product of? WOther -> permuted schubmult
@@ -497,14 +596,24 @@ Question = SPolys -> schubertProduct
   | schubert polynomials of? for? OfW? WPerm -> permuted schubert 6
   | F Perm -> ? stanleyOrInverse  # F_{321}: of Stanley, or fundamental
   | F Perm InVariables -> ? stanleyOf
+  | Convert? F Perm InSchur -> ? stanleyOrInverse
+  | Convert Stanley F Perm InSchur? -> stanleyOf 4
+  | Convert Stanley of? for? OfW? WPerm InSchur? -> stanleyOf 6
+  | Stanley F Perm InSchur -> stanleyOf
+  | edelman - greene coefficients|numbers|expansion of? for? OfW? WPerm -> stanleyOf 8
   | permutation ( Square ) . stanley_symmetric_function ( ) -> ? stanleyOrInverse
   | F Perm ~( Letters ) -> ? stanleyOf
   | Stanley F Perm -> stanleyOf
   | Stanley F Perm InVariables -> stanleyOf
   | Stanley of? for? OfW? WPerm -> stanleyOf 5
   | Stanley of? for? OfW? WPerm InVariables -> stanleyOf 5 6
-Letters = x ~_ ~NUM -> nextLetter "0"
-  | Letters , x ~_ ~NUM -> nextLetter
+InSchur = In s -> ""
+  | In schur functions|polynomials|basis? -> ""
+Letters = XLetter -> nextLetter "0"
+  | Letters , XLetter -> nextLetter
+  | Letters , . . . , XLetter -> 7
+XLetter = x ~_ ~NUM -> 3
+  | x ~NUM -> 2
 Stanley = stanley symmetric? functions? -> ""
   | stable schubert polynomials -> ""
 # ---------------------------------------------------------------- the Grassmannian
@@ -523,11 +632,13 @@ Star = ~Ast -> ""
   | ~^ ~{ ~Ast ~} -> ""
   | ~^ ~{ NUM } -> ""
 InField = , Z|ℤ|Q|ℚ|C|ℂ -> ""
+Small = small? quantum cohomology ring? -> ""
 Space "Gr(k,n)" = GrOf -> 1
   | H|A Star ~( GrOf InField? ) -> 4
   | cohomology|chow ring? of GrOf -> 4
   | QH Star? ~( GrOf InField? ) -> space quantum 4
-  | quantum cohomology ring? of GrOf -> space quantum
+  | Small of? GrOf -> space quantum
+  | QH ( NUM , NUM ) -> ? spaceOf
   | qcoh of? GrOf -> space quantum
 Where = Space -> 1
   | in|of|for|on Space -> 2
@@ -541,26 +652,35 @@ Class "a class" = σ Index -> 2
   | NUM -> ! digits  # 2*1 in QH*(Gr(2,4))
   | [ X Index ] -> 3
   | PointClass -> 1
+  | hyperplane class? -> ones "1"
+  | h|H -> ? ones "1"
+  | σ ~_ ~□ -> ones "1"
   | c ~_ ~NUM ~( Q ) -> list  # Chern classes of the quotient, and of the dual of the sub-bundle
   | c ~_ ~NUM ~( S ~^ ~Ast ) -> ones
 ClassPower = Class -> list
   | σ IndexPower -> list
   | Class Exp -> listPower
 Classes = ClassPower -> 1
-  | Classes *|⊗|∪|∩ ClassPower -> addAll
+  | Classes *|⊗|∩ ClassPower -> addAll
+  | Classes ∪ ClassPower -> addCup  # that of H*, or the quantum product
   | Classes ∗ ClassPower -> addStarred  # the quantum product, or that of H*
   | Classes ClassPower -> addAll
 ClassPair = Classes By Classes -> addAll
-ProductOf = cup? product of? -> ""
+ProductOf = product of? -> ""
   | multiply -> ""
-Question = Classes ,|:? Where -> classesIn
-  | Where ,|:? Classes -> classesIn 3 1
-  | Where ,|:? ProductOf ClassPair -> classesIn 4 1
-  | ProductOf ClassPair ,? Where -> classesIn
+ProductOfPair = ProductOf ClassPair -> 2
+  | cup ProductOf ClassPair -> cup
+  | cup ProductOf Classes -> cup
+Stop = ,|:|; -> ""
+Question = Classes Equals? Stop? Where -> classesIn
+  | Where Stop? Classes -> classesIn 3 1
+  | Where Stop? ProductOfPair -> classesIn 3 1
+  | ProductOfPair ,? Where -> classesIn
   | product of? Both Where -> classesIn
   | quantum product of? Both QWhere -> classesIn
   | quantum product of? ClassPair QWhere -> classesIn
-  | quantum product? ~: Classes QWhere -> classesIn
+  | quantum ~: Classes QWhere -> classesIn
+  | quantum product|pieri|monk rule? of|for? ~:? Classes QWhere -> classesIn
   | Classes mod q ,? OWhere -> classesIn
   | q - term of? Classes QWhere -> ? classesIn
   | ∫ ~_ ~{ GrOf } Classes -> integral 6 4
@@ -571,11 +691,14 @@ Question = Classes ,|:? Where -> classesIn
   | intersection number of? Classes Where -> integral 4 5
   | GwName? < Class , Class , Class > ~_ ~{ d = NUM } Where -> invariant
   | GwName? < Class , Class , Class > ~_ ~NUM Where -> invariant
-  | degree of? GrOf -> degree
+  | degree of? GrOf Embedded? -> degree 3
   | Count lines Meeting NUM general|given? lines in P ~^ ~NUM -> lines 4 10
+  | Count lines in P ~^ ~NUM Meeting NUM general|given? lines -> lines 8 6
   | Count lines in NUM - space Meeting NUM general|given? lines -> lines 8 4
   | Count NUM - planes in C ~^ ~NUM Meeting NUM general|given? NUM - planes nontrivially? -> planes 2 8 10 12
   | Classes in Gr|G ( k , n ) -> ! product 1
+Equals = = ?? -> ""
+Embedded = in|under plücker embedding -> ""
 GwName = gromov - witten invariant of? -> ""
 Meeting = meet|meeting|intersecting -> ""
 SProduct2 = σ Index -> list
@@ -587,6 +710,7 @@ ListFactor = Round -> list
   | { Inside } -> list
   | Round Exp -> listPower
 ListProduct = ListFactor * ListFactor -> addAll  # (2,1)*(2,1)
+  | { Inside } . { Inside } -> list  # SCHUR
   | ListProduct * ListFactor -> addAll
   | ListFactor ∗ ListFactor -> ? addAll  # or the internal product
   | ListProduct ∗ ListFactor -> ? addAll
@@ -601,6 +725,14 @@ Question = SProduct2 -> ! product  # σ_1^4: no Gr(k,n) is said
   | Juxtaposed -> ? product  # (3,1)(2): a product of s, or of cycles
 # ---------------------------------------------------------------- modules of GL_n and of S_n
 Indexed = s|V Index -> typedWith index
+  | S Index V_ -> typedWith index
+TensorOf = tensor product of? -> ""
+TensorPair = Indexed By Indexed -> list
+  | Lam By Lam -> list
+  | Lam , Lam -> list
+IntoSum = into|in|as -> ""
+  | into|as sum of -> ""
+Irreducibles = IntoSum irreducible|irreducibles|irreps representations|components|constituents|modules|characters? -> ""
 Tensor = ListFactor ⊗ ListFactor -> addAll
   | Tensor ⊗ ListFactor -> addAll
   | Indexed ⊗ Indexed -> list
@@ -613,6 +745,7 @@ Functor "a functor" = sym Degree -> functor h
   | S Above -> atom s 2
   | S Index -> atom s 2
 V_ = V -> ""
+  | C ~^ ~n -> ""
   | ( V ) -> ""
 Cn = C ~^ ~NUM -> 3
   | ( C ~^ ~NUM ) -> 4
@@ -626,29 +759,68 @@ Composite = Functor ( Functor V_ ) -> composed
   | Functor Functor V_ -> composed
   | Functor ( Modules ) -> composed
 CompositeIn = Functor ( Functor Cn ) -> composed 1 3
-GlOf = GL ~_ ~NUM -> 3
-  | GL ~_ ~{ NUM } -> 4
-  | GL ( NUM ) -> 3
+GlOf = GL|U ~_ ~NUM -> 3
+  | GL|U ~_ ~{ NUM } -> 4
+  | GL|U ( NUM ) -> 3
   | GL ~NUM -> 2
-ForGl = for|of|in|,? GlOf -> 2
-  | as a? GlOf - representation|module -> 3
-  | , dimension V = NUM -> 5
+  | GlOf ~( C ) -> 1
+  | GL ( NUM , C ) -> 3
+ForGl = for|of|in|over|,? GlOf -> 2
+  | as a? GlOf -? representations|representation|modules|module|characters -> 3
+  | ,|for|with|if|and dimension V = NUM -> 5
+ForV = for|of|over GL ( V ) -> ""
+  | as a? GL ( V ) -? representations|representation|module|modules -> ""
 Specht = S Above ⊗ S Above -> list 2 5
   | Specht ⊗ S Above -> add 1 4
 Young = S ~_ ~NUM * S ~_ ~NUM -> list
   | Young * S ~_ ~NUM -> add
+Spechts = S Above *|⊠|⊗ S Above -> list 2 5
+  | S Above By S Above -> list 2 5
+Induce = induction product of? -> ""
+  | induce -> ""
+FromTo = from SAny *|⊠ SAny -> ""
+  | from SAny *|⊠ SAny to SAny -> ""
+  | to SAny -> ""
 UpTo = ~^ ~{ S ~_ ~NUM } -> 5
+Into = ForV -> ""
+  | Irreducibles ForV? -> ""
+  | in|into schur functions|functors -> ""
+Product_ = product of? -> ""
+  | TensorOf -> ""
+Littlewood = ListFactor ⊗ ListFactor -> littlewood
+Restrict = restriction|restrict|res of? specht? module? -> ""
+Sn = S ~_ ~NUM -> 3
+Pair_ = young subgroup|subgroups -> ""
+  | young? subgroup|subgroups? SAny * SAny -> ""
+SAny = S ~_ ~NUM -> ""
+  | S ~_ k -> ""
+  | S ~_ ~{ NUM - k } -> ""
+  | S ~_ ~{ n - k } -> ""
 Question = Tensor -> ! product  # of modules of GL
-  | product? of? Tensor ForGl -> product
-  | Modules -> inSchur
-  | Modules ForGl -> inVariables
-  | Composite -> plethysm s
-  | CompositeIn -> ! plethysm s
+  | Littlewood -> ! plethysm s  # {2}⊗{3}: h_3[h_2]
+  | Product_? Tensor Irreducibles? ForGl Irreducibles? -> product 2 4
+  | GlOf Stop? Product_? Tensor -> product 4 1
+  | TensorOf TensorPair ForGl -> product
+  | TensorOf TensorPair -> ! product
+  | GlOf Stop? TensorOf TensorPair -> product 4 1
+  | Modules Into? -> inSchur 1
+  | Modules Irreducibles? ForGl -> inVariables 1 3
+  | TensorOf Module By Module ForGl -> pairInVariables
+  | Composite Into? -> plethysm s 1
+  | Functor of Functor -> plethysmOf s
+  | CompositeIn Into? -> ! plethysm s 1
   | Specht -> ? product  # induced, or the Kronecker product
   | ind ~( Specht ) -> product
+  | ind ~( Spechts ) -> product
+  | Induce Spechts FromTo? -> product
+  | ind ~_ ~{ S ~_ ~NUM } UpTo S Above -> inducedByOne 6 8 10
+  | ind UpTo ~_ ~{ S ~_ ~NUM } S Above -> inducedByOne 7 2 10
+  | Restrict S Above to|on Sn -> restricted 5 3
+  | Restrict S Above to|on Pair_ -> ? coproduct 3
   | ind ~_ ~{ Young } UpTo? Specht -> induced 4 6 7
   | ind ~_ ~{ Young } UpTo? NUM -> permutationModule 4 6 7
   | res ~_ ~{ S ~_ ~NUM } S Above -> restricted 6 9
+  | res ~^ ~{ S ~_ ~NUM } ~_ ~{ S ~_ ~NUM } S Above -> restricted 12 15
   | res UpTo? ~_ ~{ Young } S Above -> ? coproduct 8
   | Permutations -> ? expand s
   | Permutations ModulesOf -> expand s 1
@@ -667,10 +839,12 @@ Level = at|, level NUM -> 3
   | , k = NUM -> 4
   | level NUM -> 2
   | ~_ ~NUM -> 2
-FusionOf = fusion product|rule|rules? of? -> ""
+TypedLists = Lam Lam -> list
+FusionOf = fusion|verlinde product|rule|rules|coefficients|algebra|formula|ring? of|for|:? -> ""
 Question = Fused for|of|in|,? Lie Level -> fusionFor
   | FusionOf Fused for|of|in|,? Lie Level -> fusionFor
-  | Lie Level :? FusionOf? Fused -> fusionFor 5 1 2
+  | FusionOf? Lie Level Stop? FusionOf? Fused -> fusionFor 6 2 3
+  | FusionOf? Lie Level Stop? TypedLists -> fusionFor 5 2 3
 
 # ---------------------------------------------------------------- the arguments of a command
 Operand = Lam -> operand list
@@ -742,6 +916,7 @@ Rows "the number of variables" = -r NUM -> variables
   | , maxrows = NUM -> variables  # lrcalc in Python
 Command = mult Opt? Opt? Factors Opt? Opt? -> mult
   | mult ( Call Rows ) -> mult
+  | lr_tensor Factors -> mult  # LiE
   | mult Factors ,|:? Where -> productIn
   | mult Where ,|:? Factors -> productIn 4 2
   | mult Skew -> ! skew  # mult (2,1)/(1)
@@ -794,6 +969,9 @@ Command = quantum QWhere ,|:? Factors -> productIn 4 2
   | fusion NUM Factors -> ! fusionLeast 3 2
   | fusion Factors -> ! fusionLeast
 WPerm "a permutation" = Square -> 1
+  | permutation ( Square ) -> 3
+  | ( permutation ( Square ) ) -> 4
+  | ( { Inside } ) -> 3
   | { Inside } -> 2
   | Cycles -> 1
   | Compact -> 1
@@ -826,11 +1004,15 @@ Command = schubert WPerm -> permuted schubert
   | stanley WPerm -> ! stanleyOf
   | rsk Word -> rsk
 Word "a word" = WPerm -> 1
+  | w = WPerm -> 3
   | Blanks -> 1
   | word InTurn -> 2
   | permutation WPerm -> 2
   | empty word -> list
-Question = growth diagram of? for? permutation? WPerm -> permuted growth 6
+Question = fomin? growth diagram of? for? permutation? OfW? WPerm -> permuted growth 8
+  | permutation ( Square ) . robinson_schensted|left_tableau|right_tableau ( ) -> rsk
+  | P ~( WPerm ) ,|and Q ~( WPerm ) -> rskTwice
+  | ( P , Q ) of|for Word -> rsk
   | Rsk of|for|to|on? Word -> rsk
   | P and|, Q tableaux|tableau? of|for Word -> rsk
   | P|Q ~( WPerm ) -> ? rsk  # or a function P of Hall and Littlewood
@@ -838,8 +1020,9 @@ InTurn = Inside -> 1
   | Round -> 1
   | Square -> 1
   | Part -> 1
-Rsk = rsk correspondence? -> ""
-  | robinson - schensted -? knuth? correspondence? -> ""
+Rsk = rsk correspondence|insertion? -> ""
+  | row|rsk|schensted? insertion|insert -> ""
+  | robinson - schensted -? knuth? correspondence|insertion? -> ""
   | insertion|recording|P|Q tableau -> ""
   | insertion|recording tableaux -> ""
 TRow = Square -> 1
@@ -895,23 +1078,32 @@ SkewTableau "a skew tableau" = [ SkewRows ] -> 2  # [[None,1],[1,2]], Sage
 RectName = rectification|rectify|rect|jdt of|on? -> ""
   | jeu de taquin of|on? -> ""
 Question = RectName skew? tableau? SkewTableau -> rectOfSkew
+  | RectName ( SkewTableau ) -> rectOfSkew
   | SkewTableau . rectify ( ) -> rectOfSkew
   | rectification of Tableau of|, shape? Skew -> rect 6 3
-  | word with P = Tableau ,? and Q = Tableau -> unrsk
-  | which? permutation|word has|with P = Tableau ,? and Q = Tableau under? rsk? -> unrsk 6 11
-  | rsk ~^ ~{ - NUM } ( Tableau , Tableau ) -> unrsk 8 10
-  | rsk_inverse ( Tableau , Tableau ) -> unrsk  # Sage
-  | inverse rsk of? Tableau and|, Tableau -> unrsk
-Command = unrsk Tableau -|,|and? Tableau -> unrsk
-  | unrsk ( Tableau , Tableau ) -> unrsk
+  | word with PAndQ -> 3
+  | which? permutation|word has|with PAndQ under? rsk? -> 4
+  | rsk ~^ ~{ - NUM } PAndQ -> 7
+  | rsk_inverse PAndQ -> 2  # Sage
+  | inverse rsk of|for? PAndQ -> 4
+  | rsk inverse of|for? PAndQ -> 4
+PAndQ = ( Tableau , Tableau ) -> unrsk
+  | Tableau and|, Tableau -> unrsk
+  | P = Tableau ,? and? Q = Tableau -> unrsk
+Command = unrsk Tableau -? Tableau -> unrsk
+  | unrsk PAndQ -> 2
   | rect Shape - Tableau -> rect
   | rect ( Lams , Tableau ) -> rect
   | tab|lrtab Shape -> tab
   | tab Shape -from Tableau -> tabFrom
-LrTableaux = LR tableaux -> ""
-  | littlewood - richardson tableaux -> ""
+LrTableaux = LR|lr skew? Tableaux -> ""
+  | littlewood - richardson skew? Tableaux -> ""
+  | yamanouchi Tableaux -> ""
+  | reverse? lattice word? Tableaux -> ""
+Tableaux = tableaux|tableau|fillings -> ""
 Question = all? LrTableaux OfShape? Skew -> tab
   | all? LrTableaux OfShape? Skew , after Tableau -> tabFrom
+  | all? LrTableaux OfShape? Skew OfContent Arg -> ! tab 4
   | Count LrTableaux OfShape? Skew -> tabNumber
   | Count LrTableaux OfShape? Skew OfContent Arg -> tabContent
 Command = expand Opt? Basis ␣Sum Opt? -> expandWith  # (expand s2 has no basis)
@@ -925,7 +1117,10 @@ Command = expand Opt? Basis ␣Sum Opt? -> expandWith  # (expand s2 has no basis
 Operands = Sum ␣Sum -> composed
 Arguments = Sum , Sum -> composed
   | OfLam , OfLam -> composed
-Question = totals of NUM generated commands|command , from seed NUM -> reading work
+Question = Square -> ? bareList  # which operation?
+  | Round -> ? bareList
+  | Blanks -> ? bareList
+  | totals of NUM generated commands|command , from seed NUM -> reading work
   | answers to lines of input , of which there are none here -> reading batch
 LrCalc = lrcalc Command -> lrcalc  # lrcalc mult -r2 2 1 - 2 1
   | lrcalc . Command -> lrcalc
@@ -950,9 +1145,12 @@ Line = LrCalc -> 1
 Asked = Question -> 1
   | Ask Asked -> 2
   | murnaghan -? nakayama? rule? for|of? Asked -> ? 6  # of characters, and of p_r s_λ
-Ask = compute|calculate|evaluate|find|decompose|draw|show|list|give|apply|do|class -> ""
+Ask = compute|calculate|evaluate|find|determine|decompose|draw|show|list|give|apply|do|class -> ""
+  | decomposition of -> ""
   | what is|are? -> ""
-  | pieri rule? for? of? -> ""
+  | pieri rule|formula? for? of? -> ""
+  | murnaghan -? nakayama? rule? : -> ""
+  | newton identity|identities? for? :? -> ""
   | how do|can I|we -> ""
   | pieri|product ~: -> ""
 `;

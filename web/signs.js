@@ -21,11 +21,11 @@ const PIECES = [
   "[ \\t\\u00a0\\u1680\\u2000-\\u200a\\u202f\\u205f\\u3000~]+|\\\\[,;:! ]",
   "\\d+",
   "\\\\(?:mathfrak|frak|mathcal|mathscr|mathbf|mathrm|mathbb|operatorname|text|textrm)\\s?\\{[A-Za-z ]+\\}|\\\\(?:math(?:frak|bb|cal)|frak)\\s?[A-Z]",
-  "[A-Za-z]+(?:_[A-Za-z]{2,})*",
+  "[A-Za-zü]+(?:_[A-Za-z]{2,})*",
   "-(?:from|[rm])(?![A-Za-z])(?=[ \\t\\d]|$)",
   "[⁰¹²³⁴-⁹]+",
   "[₀-₉]+",
-  "\\\\(?:begin|end)\\{ytableau\\}|\\\\\\\\|\\\\[A-Za-z]+|\\*\\*|->|(?<=[A-Za-z])'s(?![A-Za-z_({[\\d])|.",
+  "\\\\(?:begin|end)\\{(?:ytableau|[vp]matrix)\\}|\\\\\\\\|\\\\[A-Za-z]+|\\*\\*|[-=]>|(?<=[A-Za-z])'s(?![A-Za-z_({[\\d])|.",
 ];
 const PIECE = new RegExp(PIECES.map((it) => `(${it})`).join("|"), "gsu");
 
@@ -47,6 +47,8 @@ function signsOf(text, { words, same }) {
     if (word === "a" && isApart && /^ (?:[A-Za-z]{2}|\d)/.test(text.slice(end, end + 3))) return;
     if (words.has(word) || word.length === 1) return put(word, at, end);
     if (same.has(word) || same.has(small)) return put(same.get(word) ?? same.get(small), at, end);
+    const cut = words.has(small) ? -1 : word.indexOf("_");
+    if (cut > 0) return putWord(word.slice(0, cut), at), put("_", at + cut, at + cut + 1), putWord(word.slice(cut + 1), at + cut + 1);
     if (word.length > 2) return put(words.has(small) ? small : `?${word}`, at, end);
     for (const [i, c] of [...word].entries()) put(c, at + i, at + i + 1);
   };
@@ -63,7 +65,7 @@ function signsOf(text, { words, same }) {
     (piece, at, end) => put("sup", at, end, piece.normalize("NFKC")),
     (piece, at, end) => [["_"], ["{"], ["NUM", piece.normalize("NFKC")], ["}"]].forEach(([kind, value]) => put(kind, at, end, value)),
     (piece, at, end) => {
-      const name = /^\\[A-Za-z]+$/.test(piece) ? piece.slice(1) : "";
+      const [, name = ""] = /^\\(?:(?:begin|end)\{)?([A-Za-z]+)/.exec(piece) || [];
       put(same.get(piece) ?? (name === "" ? piece : same.get(name) ?? (words.has(name) ? name : `?${piece}`)), at, end);
     },
   ];
@@ -95,6 +97,8 @@ function withValues(signs) {
   }
   while (["for", "with", "where", "when", "if", "let", "and", ",", ";", ":"].includes(kindAt(front - 1))) front -= 1;
   const others = [...signs.slice(0, Math.max(front, 0)), ...signs.slice(at)], isUsed = values.size > 0 && [...values.keys()].every((name) => others.some((it) => it.kind === name));
+  // (n^2 is a number, and 2^2 two parts)
+  if (others.some((it, i) => NUMBER_LETTERS.test(it.kind) && values.has(it.kind) && ["^", "sup", "**"].includes(others[i + 1]?.kind) && others[i - 1]?.kind !== "_")) return signs;
   const put = (it) => (values.get(it.kind) || [it]).map((sign, i) => ({ ...sign, at: it.at, end: it.end, gap: i === 0 ? it.gap : sign.gap }));
   return isUsed ? others.flatMap(put) : signs;
 }
