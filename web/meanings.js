@@ -303,6 +303,8 @@ const MEANINGS = {
     return areLetters(lists) && lists.length === (name.endsWith("mult") ? 2 : 1) ? reading(name, between(lists)) : null;
   },
   schubertProduct: (lists) => (lists.length <= 2 ? MEANINGS.permuted(lists.length === 1 ? "schubert" : "schubmult", lists) : areLetters(lists) ? tooMuch("Two Schubert polynomials are multiplied at a time here.") : null),
+  // (as many letters as it has, or more)
+  schubertIn: (w, count) => (Number(count) >= w.length - 1 ? w : null),
   stanleyOrInverse: (w) => (isPermutation(w) ? eitherOf(stanleyOf(w), stanleyOf(inverseOf(w))) : null),
   nextLetter: (last, number) => (Number(number) === Number(last) + 1 ? number : null),
   rskTwice: (a, b) => (a.join() === b.join() ? reading("rsk", a) : null),

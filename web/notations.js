@@ -19,7 +19,7 @@ const NOTATIONS = String.raw`
 ∖ == ⧵ \ \setminus \backslash
 < == ⟨ 〈 \langle
 > == ⟩ 〉 \rangle
-∪ == \cup
+∪ == \cup ⌣ \smile
 ⊗ == \otimes
 ⊠ == \boxtimes
 ⊕ == \oplus
@@ -27,6 +27,7 @@ const NOTATIONS = String.raw`
 ⊥ == \perp perp
 schubert == schub Sch
 GL == gl
+S == 𝕊
 ∘ == \circ circ
 ∅ == \emptyset \varnothing
 ' == \prime
@@ -193,16 +194,20 @@ Power = Atom -> 1
   | Atom Exp -> powerOf
   | Paren Exp -> powerOf
 Paren = ( Sum ) -> paren
-Det = det of? Matrix -> determinant  # of Jacobi and Trudi
+Det = det|determinant of? Matrix -> determinant  # of Jacobi and Trudi
   | vmatrix Matrix_ vmatrix -> determinant
 Matrix = [ DRows ] -> 2
-  | ( DRows ) -> 2
-  | ( [ DRows ] ) -> 3
+  | { DRows } -> 2
+  | ( Matrix ) -> 2
+  | [ { DRows } ] -> 3
   | ( Matrix_ ) -> 2
+  | pmatrix Matrix_ pmatrix -> 2
 Matrix_ = DRow -> list
   | Matrix_ ;|\\ DRow -> add
-DRows = [ DRow ] -> list 2
-  | DRows ,? [ DRow ] -> add 1 4
+DRows = DList -> list
+  | DRows ,? DList -> add
+DList = [ DRow ] -> 2
+  | { DRow } -> 2
 DRow = Sum -> list
   | DRow ,|& Sum -> add
 Number = NUM -> scalar
@@ -245,7 +250,7 @@ In = To -> ""
   | = Σ ?? -> ""  # h_{22} = Σ m_λ
   | = ? -> ""
   | = Σ χ ~^ Greek ~( Inside ) -> ""
-Convert = expand|write|express|convert|rewrite|transform -> ""
+Convert = expand|write|express|convert|rewrite|transform|change -> ""
   | change basis of -> ""
 Plethysm "a plethysm" = Power ~[ Sum ] -> composed  # h_2[h_3]
   | Power O_ Power -> composed
@@ -253,8 +258,8 @@ Plethysm "a plethysm" = Power ~[ Sum ] -> composed  # h_2[h_3]
   | Power composed with Power -> composed
   | Power ( Sum ) -> composed  # h_2(h_3): or a product
   | Power . plethysm ( Sum ) -> composed  # Sage
-  | plethysm of Power By Power -> composed
-  | plethysm Power of Power -> composed
+  | plethysm of? Power By Power -> composed
+  | plethysm ~:? Power of Power -> composed
   | plethysm of|:? Plethysm -> 3
 Omega = ω Family Index -> omega  # ω s_{3,1} is s_{2,1,1} (what follows could be under it, too)
   | ω ( Family Index ) -> omega
@@ -270,13 +275,14 @@ Question = Omega -> bare
   | Family ~( Plethysm ) -> plethysm
   | Convert Sum -> ! bare  # expand s2: in which basis?
   | expand Family ~( Sum ) -> ! sageExpand
-  | Basis expansion of? Sum -> expand  # Schur expansion of p_3
-  | Basis expansion of? Plethysm -> plethysm
+  | Basis expansion|decomposition of? Sum -> expand  # Schur expansion of p_3
+  | Basis expansion|decomposition of? Plethysm -> plethysm
   | expansion of? Sum In Basis -> expand 5 3
   | expansion of? Plethysm In Basis -> plethysm 5 3
   | Convert? Skewed In Basis -> skewIn
   | Convert? Skewed -> skew
   | JacobiTrudi OfArg -> expand h
+  | dual JacobiTrudi OfArg -> expand e
   | JacobiTrudi σ OfIndex -> expand h
   | ToBasis ( Sum ) -> expand 1 3
   | ToBasis ␣Atom -> expand
@@ -297,7 +303,7 @@ InSymmetrica = schur -> word s
   | homsym -> word h
   | elmsym -> word e
   | monomial -> word m
-JacobiTrudi = giambelli|jacobi -? trudi? formula|determinant? of|for? -> ""
+JacobiTrudi = giambelli|jacobi -? trudi? formula|determinant|expansion|identity? of|for|:? -> ""
 SProduct = S Index -> list
   | SProduct Dot? S Index -> add 1 4
   | S Index Exp -> listPower
@@ -315,12 +321,14 @@ OfArg = Arg -> atom s
 SVar = SAtom ~( Letters ) -> inLetters  # s_{2,1}(x_1,x_2)
   | Functor Cn -> inLetters  # Sym^4(C^2)
 SVars = SVar -> list
+  | SVar Exp -> listPower
   | SVars *|⊗? SVar -> add
 Product = product of? Both -> 3
   | symmetrica . mult_schur_schur|outerproduct_schur ( Lams ) -> 5
   | multiply Both -> 2
   | littlewood - richardson product|rule of? for? Both -> 7
   | LR|lr product|rule of? for? Both -> 5
+  | product of? NUM? schur functions :? Both -> 7
 Question = Sum InVariables -> inVariables
   | Sum ForGl -> ! inVariables
   | CompactProduct -> ? product  # 21*21: or a product of numbers
@@ -345,27 +353,29 @@ Slash = ~_ ~{ Shapes } -> 3  # s_{321/21}
   | ~_ ~( Shapes ) -> 3
   | ~[ Shapes ] -> 2
   | ~( Shapes ) -> 2  # s(32/1)
+Perp = ~^ ~⊥ -> ""
+  | ~^ ~{ ⊥ } -> ""
 Slashed = s Slash -> 2
   | s Round Over Round -> list 2 4  # s(3,2)/(1)
   | s Round Over Empty -> list 2 4
   | s Empty Over Empty -> list 2 4
   | s Index Over s Index -> list 2 5  # s_λ/s_μ
   | s Index Over ~_ ~{ Sub } -> list 2 6  # s₃₂/₁
-  | s Index ~^ ~⊥ s Index -> list 6 2
-  | s Index ~^ ~{ ⊥ } s Index -> list 8 2
+  | s Index Perp s Index -> list 5 2
+  | s Index Perp ( s Index ) -> list 6 2
   | s Index . skew_by ( s Index ) -> list 2 7  # Sage
   | s ~( skewpartition ( [ Lams ] ) ) -> 6
   | s . skew_schur ( Lams ) -> 5
   | skew ( s Index , s Index ) -> inOrder 4 7  # Maple: the second by the first
   | symmetrica . part_part_skewschur ( Lams ) -> 5
   | S ~^ ~{ Shapes } -> 4  # a skew Specht module
-SkewName = skew schur? functions? of? for? -> ""
+SkewName = skew schur? functions|polynomials? of? for? -> ""
   | skew specht module|modules? of? -> ""
 Skewed = Slashed -> 1
   | SkewName Slashed -> 2
   | SkewName shape? Both -> 3
   | SkewName shape? Skew -> 3
-Question = Slashed InVariables -> skew
+Question = Convert? Skewed InVariables -> skew
   | Convert? Slashed ~( Letters ) -> skew
   | ribbon schur? functions? R|r Index -> ribbon 5
   | < s Index , Slashed > -> tabContent 5 3
@@ -426,11 +436,13 @@ Question = CoefName? for? of? Coefficient -> 4
 AllNu = for all Greek -> ""
 AllAbove = ~^ Greek -> ""
   | ~^ ~{ Greek } -> ""
-CoefOf = coefficient|multiplicity|mult of? -> ""
+CoefOf = plethysm? coefficient|multiplicity|mult of? -> ""
   | CoefName of? for? -> ""
 Question = CoefOf Atom in Term -> coefficientIn
   | CoefOf Monomial in Term -> coefficientAt m
   | CoefOf Atom in product of? And -> coefficientIn 2 6
+  | CoefOf Atom in product of? Term -> coefficientIn 2 6
+  | how many|often times? does Atom occur|appear in Term -> coefficientIn 5 8
   | CoefOf Atom in Plethysm -> coefficientInPlethysm
   | [ Atom ] Sum -> coefficientIn  # [s_λ] s_μ s_ν
   | CoefOf Arg in Both -> coef
@@ -453,19 +465,20 @@ Question = Kostka -> 1
   | Symmetrica? kostka_number ( Lams ) -> kostka  # Sage
   | kostkanumber [ Lams ] -> kostka
   | KostkaName Pair -> kostka
+  | KostkaName OfShape? Arg OfContent Arg -> kostkaOf
   | KostkaName Arg and Arg -> kostkaOf
   | kostka Blanks -> ! kostkaAll  # kostka 3 1 1 1 1 1: where the sizes fit
-  | kostka numbers of? for? OfArg -> expand m
+  | all? kostka numbers of? for? OfArg -> expand m
 Count = number of all? -> ""
   | how many -> ""
-  | hash -> ""
+  | hash|count -> ""
 Symmetrica = symmetrica . -> ""
 Cardinality = . cardinality ( ) -> ""
 Semistandard = ssyt|ssyts -> ""
   | semistandard|column -? strict? young? tableaux -> ""
 Standard = syt|syts -> ""
   | standard young? tableaux -> ""
-OfShape = of -> ""
+OfShape = of|for -> ""
   | of? skew? shape -> ""
   | of? skew? shape? Greek / Greek = -> ""
 OfContent = ,|and|with? content|weight|type -> ""
@@ -490,7 +503,8 @@ Question = Count Semistandard OfShape? Arg OfContent Arg -> kostkaOf 4 6
 Question = f Upper -> standardOf  # f^{(3,2,1)}
   | f ~^ ~Digits -> ? standardOf  # f^2: or a square
   | f ~^ ~{ Shapes } -> standardSkew 4
-  | hook length formula? of|for|:? dimension? of? Arg -> standardOf 7
+  | f Lower -> ? standardOf
+  | hook -? length formula? of|for|:? dimension? of? Arg -> standardOf 8
   | dimension of? specht module? Arg -> standardOf 5
   | dimension of? specht module? S Upper -> standardOf 6
   | dimension of? S Upper -> orSize
@@ -504,13 +518,15 @@ Irreducible = irrep|representation|module -> ""
 OfS = of|for symmetric? group? S ~_ ~NUM -> 6
   | of|for symmetric? group? S ~_ ~{ NUM } -> 7
 OfSize = Arg OfS -> ofSize 2 1
+  | S ~_ ~NUM - representation|module|irrep Labelled? Arg -> ofSize 3 7
   | OfS of|for? Arg -> ofSize
   | OfS Labelled Arg -> ofSize
-Character = character of? -> ""
+Character = irreducible? character of? -> ""
   | value of character of? -> ""
   | character value of? -> ""
   | value of -> ""
 Module_ = Arg -> 1
+  | Irreducible Labelled? Arg -> 3
   | for Arg -> 2
   | OfSize -> 1
 AtClass = evaluated? at|on|for cycle|conjugacy? type|class? of? cycle? type? -> ""
@@ -527,6 +543,7 @@ Question = χ Above ~( Inside ) -> characterOf  # χ^{31}(22)
   | χ Above -> ? characterOnly
   | χ ( Lam , Lam ) -> characterOf  # Maple
   | χ Square Square -> characterOf
+  | χ Round Round -> characterOf
   | Symmetrica? charvalue ( Lam , Lam ) -> characterOf
   | Character? χ Above OfS? AtClass Arg -> characterOf 3 6
   | Character? χ Above AtClass Cycle -> characterAtCycle 3 5
@@ -555,6 +572,8 @@ Perm "a permutation" = ~_ ~{ PSub } -> 3
   | ~NUM ~, ~Tight -> ? join  # S10,1,2,..
 SPoly "a Schubert polynomial" = Sch|schubert Perm -> 2
   | symmetrica? .? t_schubert_polynom ( SPoly ) -> 5
+  | SPoly ~( x ) -> 1
+  | SPoly ~( Letters ) -> schubertIn
   | schubertpolynomialring ( Ring ) ( Square ) -> 6
   | SPoly . expand ( ) -> 1
   | { Sch } Perm -> 4  # {\mathfrak S}_w
@@ -568,10 +587,17 @@ SPolys = SPoly -> list
 DPolys = DPoly -> list
   | DPolys Dot? DPoly -> add
   | DPoly Exp -> listPower
-InFlags = in cohomology? of? Fl ( NUM ) -> ""
-  | in H Star ~( Fl ( NUM ) ) -> ""
-  | in H ~_ T ~^ ~Ast ~( Fl ( NUM ) ) -> ""
+Flags = Fl ( NUM ) -> ""
+  | Fl ~_ ~NUM -> ""
+  | Fl ~_ ~{ NUM } -> ""
+InFlags = in? cohomology? of? Flags -> ""
+  | in? H Star ~( Flags ) -> ""
+  | in? H ~_ T ~^ ~Ast ~( Flags ) -> ""
+FlagClass = σ Perm -> 2
+  | [ X Perm ] -> 3
 Monk = monk rule|formula? of|for|:? -> ""
+  | schubert structure constants|coefficients of|for|:? -> ""
+  | schubert polynomials? product|multiplication of|for|:? -> ""
 OfW = w = -> ""
   | F ~_ w for|with w = -> ""
   | permutation -> ""
@@ -579,6 +605,10 @@ InSchubert = In schubert polynomials|basis|classes -> ""
 Question = SPolys -> schubertProduct
   | Convert? SPolys InSchubert -> schubertProduct 2
   | Monk SPolys -> schubertProduct
+  | Monk WOther -> permuted schubmult
+  | InFlags :|, SPolys -> ? schubertProduct
+  | FlagClass Dot? FlagClass InFlags -> ? permuted schubmult
+  | product of? schubert classes FlagClass By FlagClass InFlags -> ? permuted schubmult
   | multiply SPolys By SPoly -> permuted schubmult 2 4
   | multiply schubert polynomials of? for? WOther -> permuted schubmult
   | double schubert polynomials|product DPolys -> permuted dschubmult
@@ -589,7 +619,6 @@ Question = SPolys -> schubertProduct
   | SPolys InFlags -> ? schubertProduct
   | DPolys -> permuted dschubmult
   | product of? schubert? polynomials? SPolys By SPoly -> permuted schubmult 5 7
-  | schubert product of? WOther -> permuted schubmult
   | schubmult_py WOther -> permuted schubmult
   | lrcalc . mult_schubert WOther -> permuted schubmult
   | product of? schubert polynomials of? for? WOther -> permuted schubmult
@@ -653,7 +682,7 @@ Class "a class" = σ Index -> 2
   | [ X Index ] -> 3
   | PointClass -> 1
   | hyperplane class? -> ones "1"
-  | h|H -> ? ones "1"
+  | h|H|x -> ? ones "1"
   | σ ~_ ~□ -> ones "1"
   | c ~_ ~NUM ~( Q ) -> list  # Chern classes of the quotient, and of the dual of the sub-bundle
   | c ~_ ~NUM ~( S ~^ ~Ast ) -> ones
@@ -667,7 +696,14 @@ Classes = ClassPower -> 1
   | Classes ClassPower -> addAll
 ClassPair = Classes By Classes -> addAll
 ProductOf = product of? -> ""
+  | intersection? product of? schubert classes -> ""
+  | intersection product of? -> ""
   | multiply -> ""
+QName = small? quantum product|multiplication|multiply|pieri|monk rule? of|for? -> ""
+  | quantum schubert calculus -> ""
+  | quantum LrName coefficients|product|rule of|for? -> ""
+LrName = LR|lr -> ""
+  | littlewood - richardson -> ""
 ProductOfPair = ProductOf ClassPair -> 2
   | cup ProductOf ClassPair -> cup
   | cup ProductOf Classes -> cup
@@ -677,12 +713,12 @@ Question = Classes Equals? Stop? Where -> classesIn
   | Where Stop? ProductOfPair -> classesIn 3 1
   | ProductOfPair ,? Where -> classesIn
   | product of? Both Where -> classesIn
-  | quantum product of? Both QWhere -> classesIn
-  | quantum product of? ClassPair QWhere -> classesIn
+  | QName Both QWhere -> classesIn
+  | QName ClassPair QWhere -> classesIn
+  | QName ~:? Classes QWhere -> classesIn
   | quantum ~: Classes QWhere -> classesIn
-  | quantum product|pieri|monk rule? of|for? ~:? Classes QWhere -> classesIn
   | Classes mod q ,? OWhere -> classesIn
-  | q - term of? Classes QWhere -> ? classesIn
+  | q - term|coefficient of? Classes QWhere -> ? classesIn
   | ∫ ~_ ~{ GrOf } Classes -> integral 6 4
   | ∫ ~_ ~GrOf Classes -> integral 4 3
   | Classes Where ,? coefficient of PointClass -> integral 1 2
@@ -692,6 +728,7 @@ Question = Classes Equals? Stop? Where -> classesIn
   | GwName? < Class , Class , Class > ~_ ~{ d = NUM } Where -> invariant
   | GwName? < Class , Class , Class > ~_ ~NUM Where -> invariant
   | degree of? GrOf Embedded? -> degree 3
+  | degree of? plücker embedding of GrOf -> degree
   | Count lines Meeting NUM general|given? lines in P ~^ ~NUM -> lines 4 10
   | Count lines in P ~^ ~NUM Meeting NUM general|given? lines -> lines 8 6
   | Count lines in NUM - space Meeting NUM general|given? lines -> lines 8 4
@@ -726,10 +763,10 @@ Question = SProduct2 -> ! product  # σ_1^4: no Gr(k,n) is said
 # ---------------------------------------------------------------- modules of GL_n and of S_n
 Indexed = s|V Index -> typedWith index
   | S Index V_ -> typedWith index
-TensorOf = tensor product of? -> ""
+TensorOf = tensor product? decomposition? of? -> ""
 TensorPair = Indexed By Indexed -> list
   | Lam By Lam -> list
-  | Lam , Lam -> list
+  | Lam *|⊗|,? Lam -> list
 IntoSum = into|in|as -> ""
   | into|as sum of -> ""
 Irreducibles = IntoSum irreducible|irreducibles|irreps representations|components|constituents|modules|characters? -> ""
@@ -741,6 +778,10 @@ Degree = ~^ ~NUM -> 2
   | ~^ ~{ NUM } -> 3
   | ~sup -> 1
 Functor "a functor" = sym Degree -> functor h
+  | symmetric square of? -> functor h "2"
+  | exterior square of? -> functor e "2"
+  | symmetric cube of? -> functor h "3"
+  | exterior cube of? -> functor e "3"
   | Λ Degree -> functor e
   | S Above -> atom s 2
   | S Index -> atom s 2
@@ -768,7 +809,7 @@ GlOf = GL|U ~_ ~NUM -> 3
 ForGl = for|of|in|over|,? GlOf -> 2
   | as a? GlOf -? representations|representation|modules|module|characters -> 3
   | ,|for|with|if|and dimension V = NUM -> 5
-ForV = for|of|over GL ( V ) -> ""
+ForV = for|of|over|under GL ( V ) -> ""
   | as a? GL ( V ) -? representations|representation|module|modules -> ""
 Specht = S Above ⊗ S Above -> list 2 5
   | Specht ⊗ S Above -> add 1 4
@@ -803,6 +844,7 @@ Question = Tensor -> ! product  # of modules of GL
   | TensorOf TensorPair ForGl -> product
   | TensorOf TensorPair -> ! product
   | GlOf Stop? TensorOf TensorPair -> product 4 1
+  | clebsch - gordan TensorOf? ForGl ~: TensorPair -> product 7 5
   | Modules Into? -> inSchur 1
   | Modules Irreducibles? ForGl -> inVariables 1 3
   | TensorOf Module By Module ForGl -> pairInVariables
@@ -840,8 +882,9 @@ Level = at|, level NUM -> 3
   | level NUM -> 2
   | ~_ ~NUM -> 2
 TypedLists = Lam Lam -> list
-FusionOf = fusion|verlinde product|rule|rules|coefficients|algebra|formula|ring? of|for|:? -> ""
+FusionOf = verlinde|fusion fusion? product|rule|rules|coefficients|algebra|formula|ring? of|for|:? -> ""
 Question = Fused for|of|in|,? Lie Level -> fusionFor
+  | level NUM Lie FusionOf? Fused -> fusionFor 5 3 2
   | FusionOf Fused for|of|in|,? Lie Level -> fusionFor
   | FusionOf? Lie Level Stop? FusionOf? Fused -> fusionFor 6 2 3
   | FusionOf? Lie Level Stop? TypedLists -> fusionFor 5 2 3
@@ -916,13 +959,15 @@ Rows "the number of variables" = -r NUM -> variables
   | , maxrows = NUM -> variables  # lrcalc in Python
 Command = mult Opt? Opt? Factors Opt? Opt? -> mult
   | mult ( Call Rows ) -> mult
-  | lr_tensor Factors -> mult  # LiE
+  | LrCall Factors -> mult
+  | LrCall [ Lams ] -> product
   | mult Factors ,|:? Where -> productIn
   | mult Where ,|:? Factors -> productIn 4 2
   | mult Skew -> ! skew  # mult (2,1)/(1)
   | mult Scaled -> ! expand s
   | mult SProduct -> ? multOfS  # S: of Schur or of Schubert
   | mult SPolys -> ? schubertProduct
+LrCall = lr_tensor|lrmult|lrrule|littlewoodrichardson|littlewoodrichardsonrule -> ""  # LiE and others
 OfLam = Lam -> atom s
 OfAny = Any -> schurOf
 OfOperand = Operand -> schurOf
@@ -988,6 +1033,7 @@ Cycles = Round -> roundPermutation
 CycleList = Round Round -> list
   | CycleList Round -> add
 WOther "two permutations" = ( Square , Square ) -> list
+  | ( Compact , Compact ) -> list
   | ( Round , Round ) -> roundPair
   | WPerm ␣- ␣WPerm -> list
   | WPerm * WPerm -> list
@@ -1020,7 +1066,7 @@ InTurn = Inside -> 1
   | Round -> 1
   | Square -> 1
   | Part -> 1
-Rsk = rsk correspondence|insertion? -> ""
+Rsk = rsk correspondence|insertion|tableaux? -> ""
   | row|rsk|schensted? insertion|insert -> ""
   | robinson - schensted -? knuth? correspondence|insertion? -> ""
   | insertion|recording|P|Q tableau -> ""
@@ -1075,7 +1121,7 @@ SkewTableau "a skew tableau" = [ SkewRows ] -> 2  # [[None,1],[1,2]], Sage
   | skewtableau ( [ SkewRows ] ) -> 4
   | SSlashes -> 1
   | with rows SkewRows -> 3
-RectName = rectification|rectify|rect|jdt of|on? -> ""
+RectName = rectification|rectify|rect|jdt of|on|:? -> ""
   | jeu de taquin of|on? -> ""
 Question = RectName skew? tableau? SkewTableau -> rectOfSkew
   | RectName ( SkewTableau ) -> rectOfSkew
@@ -1092,7 +1138,7 @@ PAndQ = ( Tableau , Tableau ) -> unrsk
   | P = Tableau ,? and? Q = Tableau -> unrsk
 Command = unrsk Tableau -? Tableau -> unrsk
   | unrsk PAndQ -> 2
-  | rect Shape - Tableau -> rect
+  | rect Shape -|: Tableau -> rect
   | rect ( Lams , Tableau ) -> rect
   | tab|lrtab Shape -> tab
   | tab Shape -from Tableau -> tabFrom
@@ -1149,6 +1195,9 @@ Ask = compute|calculate|evaluate|find|determine|decompose|draw|show|list|give|ap
   | decomposition of -> ""
   | what is|are? -> ""
   | pieri rule|formula? for? of? -> ""
+  | LrName product|rule|expansion|decomposition of|for|:? -> ""
+  | LrName ~: -> ""
+  | schur functions? product of|:? -> ""
   | murnaghan -? nakayama? rule? : -> ""
   | newton identity|identities? for? :? -> ""
   | how do|can I|we -> ""
