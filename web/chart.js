@@ -1,7 +1,7 @@
 // A chart parser (Earley, which looks at the next sign): all trees of a line of signs, as the set of their values.
 
 /** The most items and cuts of a chart, and the most values of a rule at a place: beyond them a line is too long, or has too many readings, to be read here. */
-const MOST_ITEMS = 24500;
+const MOST_ITEMS = 20000;
 const MOST_CUTS = 24000;
 const MOST_VALUES = 24;
 
@@ -64,7 +64,8 @@ function grammarOf(table, meanings) {
   for (const { name, items: all, meaning, isRepair, isDoubt } of alternatives) {
     const give = giver({ items: all, meaning }, isValued, meanings), id = ids.get(name);
     for (const items of choicesOf(all)) {
-      const of = { id, name, items, give, digits: 0, isRepair, isDoubt, count: all.length };
+      const isSame = all.length === 1 && meaning[0] === "1" && ids.has(all[0].name) && !isRepair && !isDoubt;
+      const of = { id, name, items, give, digits: 0, isRepair, isDoubt, isSame, count: all.length };
       startsOf[id].push(states.length);
       items.forEach((item, at) => states.push({ of, at, place: item.place, name: item.name, gap: item.gap, rule: ids.get(item.name) ?? -1, first: firstOfItem(item.name) }));
       states.push({ of, at: items.length, gap: 0, rule: -1, first: null });
@@ -106,14 +107,11 @@ function chartOf(grammar, rule, signs) {
   // (of each column: its items, and these as numbers; the rules that are awaited there, with the items that wait; and those that have ended there)
   const columns = Array.from({ length: wide }, () => ({ items: [], keys: [], awaited: [], waiting: [], ended: [], first: 0, isMixed: false }));
   let far = 0, count = 0, tried = [];
-  const stops = (at, states) => {
-    if (at > far) (far = at), (tried = []);
-    tried.push(...states);
-  };
   const add = (at, next, begin, from, over) => {
     const first = firsts[next], { items, keys } = columns[at];
     if (first !== null) {
-      if (at >= far) stops(at, [next]);
+      if (at > far) (far = at), (tried = []);
+      if (at === far) tried.push(next);
       // (an item that cannot go on here is none)
       if (!first[kind[at]] || (gaps[next] !== 0 && gaps[next] === blanks[at])) return;
     }
@@ -140,7 +138,9 @@ function chartOf(grammar, rule, signs) {
     waiting.push([item]);
     const { kept, stopped } = startsWith(grammar, id, kind[at], kind[at + 1]);
     for (const it of kept) add(at, it, at, -1, 0);
-    if (at + 1 >= far && stopped.length > 0) stops(at + 1, stopped);
+    if (stopped.length === 0 || at + 1 < far) return;
+    if (at + 1 > far) (far = at + 1), (tried = []);
+    tried.push(...stopped);
   };
   for (const it of startsOf[root]) add(0, it, 0, -1, 0);
   for (let at = 0; at <= length && count < MOST_ITEMS; at += 1) {
@@ -179,12 +179,14 @@ function nodesOf({ state, before, between, others, nodes, columns, root }, wide)
     take(before[item], between[item]);
     for (const [from, over] of others.get(item) ?? []) take(from, over);
   }
-  // (those of a column are found the short ones first, but for some)
-  const inOrder = ({ ended, first, isMixed }) => {
-    const places = ended.map((_, i) => i);
-    return (isMixed ? places.sort((a, b) => (ended[b] % wide) - (ended[a] % wide)) : places).map((i) => first + i);
-  };
-  return cuts < MOST_CUTS ? columns.flatMap(inOrder).filter((it) => isNeeded[it] === 1) : null;
+  const found = [];
+  for (const { ended, first, isMixed } of columns) {
+    const needed = [];
+    for (let i = 0; i < ended.length; i += 1) if (isNeeded[first + i] === 1) needed.push(first + i);
+    // (those of a column were found the short ones first, but for some)
+    found.push(...(isMixed ? needed.sort((a, b) => (ended[b - first] % wide) - (ended[a - first] % wide)) : needed));
+  }
+  return cuts < MOST_CUTS ? found : null;
 }
 
 /** The values of one node, each once; where two trees have the same one it is a repair, or doubtful, only if it is so in both. */
@@ -210,10 +212,12 @@ function valuesOf({ states }, chart, signs) {
   let count = 0, isMany = needed === null;
   const end = ({ give }, values, marks, found) => {
     const given = give(values);
-    for (const it of given && given.isEither ? given : [{ value: given }]) {
-      const all = it.value === null || it.value === undefined ? null : marksOf(marks, it);
-      if (all && !putValue(found, { value: it.value, digits: all.digits, isRepair: all.isRepair, isDoubt: all.isDoubt })) isMany = true;
-    }
+    if (given && given.isEither) for (const it of given) put(it.value, marksOf(marks, it), found);
+    else put(given, marks, found);
+  };
+  const put = (value, marks, found) => {
+    if (value === null || value === undefined || marks === null) return;
+    if (!putValue(found, { value, digits: marks.digits, isRepair: marks.isRepair, isDoubt: marks.isDoubt })) isMany = true;
   };
   // (the values of an alternative, filled in from its last item to its first one)
   const fill = (item, values, marks, found) => {
@@ -232,7 +236,9 @@ function valuesOf({ states }, chart, signs) {
   };
   const valuesOfNode = (node) => {
     if (known[node] !== null) return known[node];
-    const found = [];
+    const found = [], [first, more] = nodes[node];
+    // (an alternative that is another rule alone has its values)
+    if (more === undefined && states[state[first]].of.isSame && !others.has(first)) return (known[node] = valuesOfNode(between[first]));
     for (const item of nodes[node]) if (!isMany) fill(item, Array(states[state[item]].of.count), states[state[item]].of, found);
     return (known[node] = found);
   };

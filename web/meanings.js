@@ -49,7 +49,18 @@ function cycled(cycles) {
 /** An expression, made of others; `isCalled`, if some function in it was typed as s(2). */
 const expression = (text, atoms = null, ...parts) => (text.length <= LIMITS.bytes ? { text, atoms, isCalled: parts.some((it) => it.isCalled) } : tooMuch());
 const atomText = (family, list) => `${family}[${list.join(",")}]`;
-const timesText = (a, b) => expression(`${a.text}*${b.text}`, a.atoms && b.atoms && a.atoms.length + b.atoms.length <= LIMITS.degree ? [...a.atoms, ...b.atoms] : null, a, b);
+/** (The functions of a product are listed when they are asked for, so that a long product is made in linear time.) */
+function timesText(a, b) {
+  const made = expression(`${a.text}*${b.text}`, null, a, b), count = sizeOfProduct(a) + sizeOfProduct(b);
+  return made && count <= LIMITS.degree ? { ...made, factors: [a, b], count, get atoms() { return atomsOf(this); } } : made;
+}
+const sizeOfProduct = (it) => it.count ?? (it.atoms ? it.atoms.length : Infinity);
+/** The functions of a product of products. */
+function atomsOf(it) {
+  const last = [];
+  for (; it.factors; it = it.factors[0]) last.unshift(...it.factors[1].atoms);
+  return [...it.atoms, ...last];
+}
 
 /** An expression as often as an exponent says, as factors; `rest` is a further factor whose digits stood right after the exponent. */
 function powerOf(it, [times, rest]) {
@@ -219,12 +230,12 @@ const MEANINGS = {
   cup: (list) => typedWith("cup", list),
   listPower: (list, [times, rest]) => (rest || Number(times) < 1 ? null : Number(times) > LIMITS.factors ? tooMuch() : Array(Number(times)).fill(list)),
   // expressions
-  atom: (family, list) => (isPartition(list) ? { ...expression(atomText(family, list), [[family, list]]), isCalled: list.how === "called" } : null),
+  atom: (family, list) => (isPartition(list) ? expression(atomText(family, list), [[family, list]], { isCalled: list.how === "called" }) : null),
   omega: (family, list) => {
     const made = OMEGA[family] ? MEANINGS.atom(OMEGA[family], family === "s" ? conjugate(list) : list) : null;
     return made && family === "p" && list.filter((it) => Number(it) % 2 === 0).length % 2 === 1 ? expression(`-1*${made.text}`) : made;
   },
-  paren: (it) => ({ ...it, text: `(${it.text})`, atoms: null, inside: it.text }),
+  paren: (it) => ({ text: `(${it.text})`, atoms: null, isCalled: it.isCalled, inside: it.text }),
   determinant: (rows) => {
     const text = (it) => (/[-+]/.test(it.text) ? `(${it.text})` : it.text);
     const terms = ([row, ...others], columns, sign) =>

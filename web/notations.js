@@ -515,10 +515,9 @@ Question = f Upper -> standardOf  # f^{(3,2,1)}
 Labelled = labelled|labeled|indexed by? -> ""
 Irreducible = irrep|representation|module -> ""
   | irreducible|specht representation|module? -> ""
-OfS = of|for symmetric? group? S ~_ ~NUM -> 6
-  | of|for symmetric? group? S ~_ ~{ NUM } -> 7
+OfS = of|for symmetric? group? Sn -> 4
 OfSize = Arg OfS -> ofSize 2 1
-  | S ~_ ~NUM - representation|module|irrep Labelled? Arg -> ofSize 3 7
+  | Sn - representation|module|irrep Labelled? Arg -> ofSize 1 5
   | OfS of|for? Arg -> ofSize
   | OfS Labelled Arg -> ofSize
 Character = irreducible? character of? -> ""
@@ -813,8 +812,8 @@ ForV = for|of|over|under GL ( V ) -> ""
   | as a? GL ( V ) -? representations|representation|module|modules -> ""
 Specht = S Above ⊗ S Above -> list 2 5
   | Specht ⊗ S Above -> add 1 4
-Young = S ~_ ~NUM * S ~_ ~NUM -> list
-  | Young * S ~_ ~NUM -> add
+Young = Sn * Sn -> list
+  | Young * Sn -> add
 Spechts = S Above *|⊠|⊗ S Above -> list 2 5
   | S Above By S Above -> list 2 5
 Induce = induction product of? -> ""
@@ -822,7 +821,7 @@ Induce = induction product of? -> ""
 FromTo = from SAny *|⊠ SAny -> ""
   | from SAny *|⊠ SAny to SAny -> ""
   | to SAny -> ""
-UpTo = ~^ ~{ S ~_ ~NUM } -> 5
+UpTo = ~^ ~{ Sn } -> 3
 Into = ForV -> ""
   | Irreducibles ForV? -> ""
   | in|into schur functions|functors -> ""
@@ -831,9 +830,10 @@ Product_ = product of? -> ""
 Littlewood = ListFactor ⊗ ListFactor -> littlewood
 Restrict = restriction|restrict|res of? specht? module? -> ""
 Sn = S ~_ ~NUM -> 3
+  | S ~_ ~{ NUM } -> 4
 Pair_ = young subgroup|subgroups -> ""
   | young? subgroup|subgroups? SAny * SAny -> ""
-SAny = S ~_ ~NUM -> ""
+SAny = Sn -> ""
   | S ~_ k -> ""
   | S ~_ ~{ NUM - k } -> ""
   | S ~_ ~{ n - k } -> ""
@@ -855,15 +855,15 @@ Question = Tensor -> ! product  # of modules of GL
   | ind ~( Specht ) -> product
   | ind ~( Spechts ) -> product
   | Induce Spechts FromTo? -> product
-  | ind ~_ ~{ S ~_ ~NUM } UpTo S Above -> inducedByOne 6 8 10
-  | ind UpTo ~_ ~{ S ~_ ~NUM } S Above -> inducedByOne 7 2 10
+  | ind ~_ ~{ Sn } UpTo S Above -> inducedByOne 4 6 8
+  | ind UpTo ~_ ~{ Sn } S Above -> inducedByOne 5 2 8
   | Restrict S Above to|on Sn -> restricted 5 3
   | Restrict S Above to|on Pair_ -> ? coproduct 3
   | ind ~_ ~{ Young } UpTo? Specht -> induced 4 6 7
   | ind ~_ ~{ Young } UpTo? NUM -> permutationModule 4 6 7
-  | res ~_ ~{ S ~_ ~NUM } S Above -> restricted 6 9
-  | res ~^ ~{ S ~_ ~NUM } ~_ ~{ S ~_ ~NUM } S Above -> restricted 12 15
+  | res UpTo? ~_ ~{ Sn } S Above -> restricted 5 8
   | res UpTo? ~_ ~{ Young } S Above -> ? coproduct 8
+  | res ~_ ~{ Sn } UpTo S Above -> restricted 4 8
   | Permutations -> ? expand s
   | Permutations ModulesOf -> expand s 1
 Permutations = M Above -> atom h

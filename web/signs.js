@@ -69,7 +69,11 @@ function signsOf(text, { words, same }) {
       put(same.get(piece) ?? (name === "" ? piece : same.get(name) ?? (words.has(name) ? name : `?${piece}`)), at, end);
     },
   ];
-  for (const found of text.matchAll(PIECE)) by[found.findIndex((it, i) => i > 0 && it !== undefined) - 1](found[0], found.index, found.index + found[0].length);
+  for (const found of text.matchAll(PIECE)) {
+    let i = 1;
+    while (found[i] === undefined) i += 1;
+    by[i - 1](found[0], found.index, found.index + found[0].length);
+  }
   return signs;
 }
 
@@ -84,8 +88,8 @@ function withValues(signs) {
   let front = signs.findIndex((_, at) => isGiven(at)), at = front, begin, end;
   // (a command has the numbers of the program; numbers beside each other could be a product)
   const isNumber = (it) => it.kind === "NUM" || NUMBER_LETTERS.test(it.kind), isBeside = (it, i) => i > 0 && !it.gap && isNumber(it) && isNumber(signs[i - 1]);
-  if (["quantum", "fusion"].includes(kindAt(0)) || signs.some(isBeside)) return signs;
-  while (at >= 0 && isGiven(at)) {
+  if (front < 0 || ["quantum", "fusion"].includes(kindAt(0)) || signs.some(isBeside)) return signs;
+  while (isGiven(at)) {
     for (begin = at + 2; isGiven(begin); ) begin += 2;
     for (end = begin; OF_VALUES.includes(kindAt(end)); ) end += 1;
     while (end > begin && kindAt(end - 1) === ",") end -= 1;
