@@ -301,6 +301,7 @@ const MEANINGS = {
   orSize: (list) => doubtful({ isAlone: !list[1] && list.how }, standardOf(list)),
   standardSkew: ([outer, inner]) => (isPartition(outer) && isPartition(inner) && sumOf(inner) <= sumOf(outer) ? kostkaSkew([outer, inner], copies("1", sumOf(outer) - sumOf(inner))) : null),
   ofSize: (letters, list) => (sumOf(list) === Number(letters) ? list : null),
+  characterInSize: (list, letters, mu) => (sumOf(list) === Number(letters) ? characterOf(list, mu) : null),
   characterAtCycle: (list, cycle) => (Number(cycle) <= sumOf(list) ? characterOf(list, [cycle, ...(copies("1", sumOf(list) - Number(cycle)) || [])]) : null),
   characterOnly: (list) => (isPartition(list) ? eitherOf(standardOf(list), reading("expand p", atomText("s", list))) : null),
   inner: (a, b) => scalarProduct(a, b) || scalarProduct(b, a),
@@ -342,6 +343,7 @@ const MEANINGS = {
     return eitherOf(it && fusionOf(it, rows, level), rows !== "2" && from(isOf(rows), ofLabels), affine, dimensions);
   },
   spaceOf: (k, n) => MEANINGS.space("quantum", boxOf(k, n - k)),
+  inducedTo: (lists, letters) => (sizeOfAll(lists) === Number(letters) ? productOf(lists) : null),
   inducedByOne: (letters, upTo, list) => (sumOf(list) === Number(letters) && Number(upTo) === sumOf(list) + 1 ? productOf([list, ["1"]]) : null),
   induced: (groups, letters, lists) => (isInducedTo(groups, letters) && groups.join() === lists.map((it) => String(sumOf(it))).join() ? productOf(lists) : null),
   permutationModule: (groups, letters, one) => (isInducedTo(groups, letters) && one === "1" ? reading("expand s", atomText("h", descending(groups))) : null),

@@ -308,7 +308,7 @@ SProduct = S Index -> list
   | SProduct Dot? S Index -> add 1 4
   | S Index Exp -> listPower
 InVariables = in NUM variables|vars|variable -> 2
-  | with|in at? most? NUM rows|parts -> 4
+  | with|in at most NUM rows|parts -> 4
   | restricted|truncated to NUM rows|variables -> 3
 SPair = S Index and S Index -> list 2 5
 Several = Power , Power -> timesText
@@ -329,11 +329,16 @@ Product = product of? Both -> 3
   | littlewood - richardson product|rule of? for? Both -> 7
   | LR|lr product|rule of? for? Both -> 5
   | product of? NUM? schur functions :? Both -> 7
+SchurProduct = schur functions? product of|:? -> ""
 Question = Sum InVariables -> inVariables
+  | SchurProduct Sum -> bare
+  | SchurProduct ListProduct -> listProduct
+  | SchurProduct Both -> product
   | Sum ForGl -> ! inVariables
   | CompactProduct -> ? product  # 21*21: or a product of numbers
   | SProduct -> ? multOfS  # S_{3,2}*S_{2,1}: of Schur, or of Schubert
   | product of? SPair -> ? multOfS
+  | multiply SPair -> ? multOfS
   | SVars -> multInLetters
   | product of? And -> bare 3
   | multiply And -> bare 2
@@ -544,7 +549,8 @@ Question = χ Above ~( Inside ) -> characterOf  # χ^{31}(22)
   | χ Square Square -> characterOf
   | χ Round Round -> characterOf
   | Symmetrica? charvalue ( Lam , Lam ) -> characterOf
-  | Character? χ Above OfS? AtClass Arg -> characterOf 3 6
+  | Character? χ Above AtClass Arg -> characterOf 3 5
+  | Character? χ Above OfS AtClass Arg -> characterInSize 3 4 6
   | Character? χ Above AtClass Cycle -> characterAtCycle 3 5
   | Character Module_ AtClass Arg -> characterOf
   | Character Module_ AtClass Cycle -> characterAtCycle
@@ -571,8 +577,10 @@ Perm "a permutation" = ~_ ~{ PSub } -> 3
   | ~NUM ~, ~Tight -> ? join  # S10,1,2,..
 SPoly "a Schubert polynomial" = Sch|schubert Perm -> 2
   | symmetrica? .? t_schubert_polynom ( SPoly ) -> 5
-  | SPoly ~( x ) -> 1
-  | SPoly ~( Letters ) -> schubertIn
+  | 𝔖 Perm ~( x ) -> 2
+  | 𝔖 Perm ~( Letters ) -> schubertIn
+  | S Perm ~( x ) -> ? 2  # or a Schur polynomial
+  | S Perm ~( Letters ) -> ? schubertIn
   | schubertpolynomialring ( Ring ) ( Square ) -> 6
   | SPoly . expand ( ) -> 1
   | { Sch } Perm -> 4  # {\mathfrak S}_w
@@ -615,6 +623,7 @@ Question = SPolys -> schubertProduct
   | equivariant product of? schubert? classes? WOther InFlags? -> ? permuted dschubmult 6
   | symmetrica . mult_schubert_schubert WOther -> permuted schubmult
   | S Index -> ? schurOfS  # S_{321}: of Schubert, or of Schur
+  | S Index ~( x ) -> ? schurOfS
   | SPolys InFlags -> ? schubertProduct
   | DPolys -> permuted dschubmult
   | product of? schubert? polynomials? SPolys By SPoly -> permuted schubmult 5 7
@@ -818,9 +827,6 @@ Spechts = S Above *|⊠|⊗ S Above -> list 2 5
   | S Above By S Above -> list 2 5
 Induce = induction product of? -> ""
   | induce -> ""
-FromTo = from SAny *|⊠ SAny -> ""
-  | from SAny *|⊠ SAny to SAny -> ""
-  | to SAny -> ""
 UpTo = ~^ ~{ Sn } -> 3
 Into = ForV -> ""
   | Irreducibles ForV? -> ""
@@ -854,7 +860,9 @@ Question = Tensor -> ! product  # of modules of GL
   | Specht -> ? product  # induced, or the Kronecker product
   | ind ~( Specht ) -> product
   | ind ~( Spechts ) -> product
-  | Induce Spechts FromTo? -> product
+  | Induce Spechts -> product
+  | Induce Spechts to Sn -> inducedTo
+  | Induce Spechts from Young to Sn -> induced 4 6 2
   | ind ~_ ~{ Sn } UpTo S Above -> inducedByOne 4 6 8
   | ind UpTo ~_ ~{ Sn } S Above -> inducedByOne 5 2 8
   | Restrict S Above to|on Sn -> restricted 5 3
@@ -1057,7 +1065,7 @@ Word "a word" = WPerm -> 1
   | empty word -> list
 Question = fomin? growth diagram of? for? permutation? OfW? WPerm -> permuted growth 8
   | permutation ( Square ) . robinson_schensted|left_tableau|right_tableau ( ) -> rsk
-  | P ~( WPerm ) ,|and Q ~( WPerm ) -> rskTwice
+  | P ~( WPerm ) ,|and Q ~( WPerm ) -> ? rskTwice  # or functions P and Q
   | ( P , Q ) of|for Word -> rsk
   | Rsk of|for|to|on? Word -> rsk
   | P and|, Q tableaux|tableau? of|for Word -> rsk
@@ -1197,7 +1205,6 @@ Ask = compute|calculate|evaluate|find|determine|decompose|draw|show|list|give|ap
   | pieri rule|formula? for? of? -> ""
   | LrName product|rule|expansion|decomposition of|for|:? -> ""
   | LrName ~: -> ""
-  | schur functions? product of|:? -> ""
   | murnaghan -? nakayama? rule? : -> ""
   | newton identity|identities? for? :? -> ""
   | how do|can I|we -> ""
