@@ -231,6 +231,7 @@ const MEANINGS = {
   listPower: (list, [times, rest]) => (rest || Number(times) < 1 ? null : Number(times) > LIMITS.factors ? tooMuch() : Array(Number(times)).fill(list)),
   // expressions
   atom: (family, list) => (isPartition(list) ? expression(atomText(family, list), [[family, list]], { isCalled: list.how === "called" }) : null),
+  named: (family, it) => (it.atoms[0][0] === family ? it : null),
   omega: (family, list) => {
     const made = OMEGA[family] ? MEANINGS.atom(OMEGA[family], family === "s" ? conjugate(list) : list) : null;
     return made && family === "p" && list.filter((it) => Number(it) % 2 === 0).length % 2 === 1 ? expression(`-1*${made.text}`) : made;

@@ -76,6 +76,7 @@ Ast "a times sign" ~= * ∗
 Over ~= / ∖
 Greek ~= λ μ ν α β ρ
 O_ ~= ∘ o
+Cup ~= ∪
 
 # ---------------------------------------------------------------- numbers and lists
 Part "a number" = NUM -> part  # 12: one number, since commas or blanks part it from others
@@ -185,9 +186,17 @@ Atom "a symmetric function" = Family Index -> atom
   | ch ~( S Above ) -> atom s 4  # of a Specht module
   | frobenius characteristic of? S Above -> atom s 5
   | symmetricfunctions ( Ring ) . Family ( ) Index -> atom
-  | Family Index ~[ X ] -> atom
+  | Family Index InX -> atom  # h_2[X]
+InX = ~[ ~X ~] -> ""
 Ring = QQ|ZZ -> ""
+Named = monomial Functions? -> word m  # the power sum p_3
+  | elementary Functions? -> word e
+  | complete? homogeneous Functions? -> word h
+  | power -? sum Functions? -> word p
+  | schur Functions? -> word s
+Functions = symmetric? functions|polynomials -> ""
 Power = Atom -> 1
+  | Named Atom -> named
   | Paren -> 1
   | Det -> 1
   | SM IndexPower -> atom  # s_1^3 (and no further exponent)
@@ -251,7 +260,7 @@ In = To -> ""
   | = ? -> ""
   | = Σ χ ~^ Greek ~( Inside ) -> ""
 Convert = expand|write|express|convert|rewrite|transform|change -> ""
-  | change basis of -> ""
+  | change of? basis of|for? -> ""
 Plethysm "a plethysm" = Power ~[ Sum ] -> composed  # h_2[h_3]
   | Power O_ Power -> composed
   | plethysm OfLam O_ OfLam -> composed
@@ -269,6 +278,8 @@ Question = Omega -> bare
   | Convert? Omega In Basis -> expand 4 2
   | Sum -> bare
   | Convert? Sum In Basis -> expand 4 2  # e_3 in h
+  | Convert? product of? And In Basis -> expand 6 4
+  | Convert? product of? Term In Basis -> expand 6 4
   | Plethysm -> plethysmBare
   | Convert? Plethysm In Basis -> plethysm 4 2
   | Family ~( Sum ) -> sageExpand  # s(h[2,1]), Sage
@@ -330,6 +341,7 @@ Product = product of? Both -> 3
   | LR|lr product|rule of? for? Both -> 5
   | product of? NUM? schur functions :? Both -> 7
 SchurProduct = schur functions? product of|:? -> ""
+  | outer product of|:? -> ""
 Question = Sum InVariables -> inVariables
   | SchurProduct Sum -> bare
   | SchurProduct ListProduct -> listProduct
@@ -484,7 +496,7 @@ Semistandard = ssyt|ssyts -> ""
 Standard = syt|syts -> ""
   | standard young? tableaux -> ""
 OfShape = of|for -> ""
-  | of? skew? shape -> ""
+  | of|have|with|having? skew? shape -> ""
   | of? skew? shape? Greek / Greek = -> ""
 OfContent = ,|and|with? content|weight|type -> ""
 Question = Count Semistandard OfShape? Arg OfContent Arg -> kostkaOf 4 6
@@ -522,7 +534,7 @@ Irreducible = irrep|representation|module -> ""
   | irreducible|specht representation|module? -> ""
 OfS = of|for symmetric? group? Sn -> 4
 OfSize = Arg OfS -> ofSize 2 1
-  | Sn - representation|module|irrep Labelled? Arg -> ofSize 1 5
+  | Sn -? representation|module|irrep Labelled? Arg -> ofSize 1 5
   | OfS of|for? Arg -> ofSize
   | OfS Labelled Arg -> ofSize
 Character = irreducible? character of? -> ""
@@ -699,7 +711,7 @@ ClassPower = Class -> list
   | Class Exp -> listPower
 Classes = ClassPower -> 1
   | Classes *|⊗|∩ ClassPower -> addAll
-  | Classes ∪ ClassPower -> addCup  # that of H*, or the quantum product
+  | Classes Cup ClassPower -> addCup  # that of H*, or the quantum product
   | Classes ∗ ClassPower -> addStarred  # the quantum product, or that of H*
   | Classes ClassPower -> addAll
 ClassPair = Classes By Classes -> addAll
@@ -868,6 +880,7 @@ Question = Tensor -> ! product  # of modules of GL
   | Restrict S Above to|on Sn -> restricted 5 3
   | Restrict S Above to|on Pair_ -> ? coproduct 3
   | ind ~_ ~{ Young } UpTo? Specht -> induced 4 6 7
+  | ind ~_ ~{ Young } UpTo? ( Specht ) -> induced 4 6 8
   | ind ~_ ~{ Young } UpTo? NUM -> permutationModule 4 6 7
   | res UpTo? ~_ ~{ Sn } S Above -> restricted 5 8
   | res UpTo? ~_ ~{ Young } S Above -> ? coproduct 8
@@ -1130,7 +1143,7 @@ SkewTableau "a skew tableau" = [ SkewRows ] -> 2  # [[None,1],[1,2]], Sage
   | SSlashes -> 1
   | with rows SkewRows -> 3
 RectName = rectification|rectify|rect|jdt of|on|:? -> ""
-  | jeu de taquin of|on? -> ""
+  | jeu de taquin rectification? of|on|:? -> ""
 Question = RectName skew? tableau? SkewTableau -> rectOfSkew
   | RectName ( SkewTableau ) -> rectOfSkew
   | SkewTableau . rectify ( ) -> rectOfSkew
@@ -1202,11 +1215,11 @@ Asked = Question -> 1
 Ask = compute|calculate|evaluate|find|determine|decompose|draw|show|list|give|apply|do|class -> ""
   | decomposition of -> ""
   | what is|are? -> ""
-  | pieri rule|formula? for? of? -> ""
+  | dual? pieri rule|formula? of|for|:? -> ""
   | LrName product|rule|expansion|decomposition of|for|:? -> ""
   | LrName ~: -> ""
   | murnaghan -? nakayama? rule? : -> ""
   | newton identity|identities? for? :? -> ""
   | how do|can I|we -> ""
-  | pieri|product ~: -> ""
+  | product ~: -> ""
 `;
