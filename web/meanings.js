@@ -280,10 +280,11 @@ const MEANINGS = {
   inOrder: (a, b) => (skewOf("skew", [b, a]) ? [b, a] : [a, b]),
   ribbon: (rows) => {
     const ends = rows.map((_, i) => sumOf(rows.slice(i)) - (rows.length - 1 - i));
-    return rows.every((it) => Number(it) > 0) ? skewOf("skew", [ends.map(String), ends.slice(1).map((it) => String(it - 1))]) : null;
+    return rows.every((it) => Number(it) > 0) ? skewOf("skew", [ends.map(String), partition(ends.slice(1).map((it) => String(it - 1)))]) : null;
   },
   skewIn: (lists, basis) => (basis === "s" ? skewOf("skew", lists) : null),
   shapeOnly: (...lists) => eitherOf(skewOf("skew", lists), skewOf("tab", lists)),
+  likeSchur: ({ atoms: [[family, list]] }) => (family === "s" || (family === "h" && list.length === 1) ? list : family === "e" && list.length === 1 ? copies("1", list[0]) : null),
   coproduct: (list) => (isPartition(list) ? reading("coprod", list) : null),
   coef: (outer, factors) => coefOf([outer, ...factors]),
   coefWithPair: (outer, factors) => inSomeOrder(coefOf([outer, ...factors]), [outer, ...factors]),

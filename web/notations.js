@@ -321,7 +321,7 @@ SProduct = S Index -> list
 InVariables = in NUM variables|vars|variable -> 2
   | with|in at most NUM rows|parts -> 4
   | restricted|truncated to NUM rows|variables -> 3
-SPair = S Index and S Index -> list 2 5
+SPair = S Index By S Index -> list 2 5
 Several = Power , Power -> timesText
   | Several , Power -> timesText
 And = Power By Power -> timesText
@@ -399,14 +399,17 @@ Question = Convert? Skewed InVariables -> skew
   | < Slashed , s Index > -> tabContent 2 5
   | Inner Over Inner -> shapeOnly 1 3  # 321/21
   | Coproduct EqualsSum? -> coproduct
-Coproduct = Δ|comultiplication of Arg -> 3
-  | Δ s Index -> 3
-  | Δ ( s Index ) -> 4
-  | s Index . coproduct ( ) -> 2
-  | coproduct of|:? Arg -> 3
+LikeSchur = Atom -> likeSchur  # s_λ, h_n and e_n
+Coproduct = Δ of Arg -> 3
+  | Δ of? LikeSchur -> 3
+  | LikeSchur . coproduct ( ) -> 1
+  | coproduct|comultiplication of|:? Arg -> 3
+  | coproduct|comultiplication of|:? LikeSchur -> 3
+  | Δ|coproduct ( LikeSchur ) -> 3
   | s Index ~( x , y ) ProductsOf -> 2
   | s Index ~( x|X ,|; y|Y ) -> ? 2  # or the polynomial in two variables
-  | s Index ~[ x|X|A + y|Y|B ] -> 2
+  | LikeSchur ~[ X|A + Y|B ] -> 1
+  | LikeSchur ~[ x + y ] -> ? 1  # or in two variables
   | Sch Index ~( V ⊕ W ) -> 2
   | Sch ~^ ~{ Sub } ~( V ⊕ W ) -> 4
 EqualsSum = = Σ s ~_ ~{ Greek / Greek } ⊗ s ~_ Greek -> ""
@@ -1088,7 +1091,7 @@ InTurn = Inside -> 1
   | Square -> 1
   | Part -> 1
 Rsk = rsk correspondence|insertion|tableaux? -> ""
-  | row|rsk|schensted? insertion|insert -> ""
+  | row|schensted insertion|insert -> ""
   | robinson - schensted -? knuth? correspondence|insertion? -> ""
   | insertion|recording|P|Q tableau -> ""
   | insertion|recording tableaux -> ""
