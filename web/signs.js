@@ -102,7 +102,8 @@ function withValues(signs) {
   while (["for", "with", "where", "when", "if", "let", "and", ",", ";", ":"].includes(kindAt(front - 1)?.replace(/^\?/, ""))) front -= 1;
   const others = [...signs.slice(0, Math.max(front, 0)), ...signs.slice(at)], isUsed = values.size > 0 && [...values.keys()].every((name) => others.some((it) => it.kind === name));
   // (n^2 is a number, and 2^2 two parts)
-  if (others.some((it, i) => NUMBER_LETTERS.test(it.kind) && values.has(it.kind) && ["^", "sup", "**"].includes(others[i + 1]?.kind) && others[i - 1]?.kind !== "_")) return signs;
+  const power = others.find((it, i) => NUMBER_LETTERS.test(it.kind) && values.has(it.kind) && ["^", "sup", "**"].includes(others[i + 1]?.kind) && others[i - 1]?.kind !== "_");
+  if (power) return tooMuch(sentence("family place", { name: power.kind })), signs;
   const put = (it) => (values.get(it.kind) || [it]).map((sign, i) => ({ ...sign, at: it.at, end: it.end, gap: i === 0 ? it.gap : sign.gap }));
   return isUsed ? others.flatMap(put) : signs;
 }

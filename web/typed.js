@@ -57,8 +57,8 @@ function offered(readings) {
 
 /** All readings of a line by the notations: those that count, those with something changed, whether something was cut short, and where the line stops. */
 function readingsOf(line) {
-  const signs = withValues(signsOf(line, notation()));
   Object.assign(cutShort, { is: false, why: "" });
+  const signs = withValues(signsOf(line, notation()));
   const { values, isMany, isWhole, far, tried } = parsed(notation(), "Line", signs);
   const readings = values.map(({ value, digits, isRepair, isDoubt }) => ({ ...value, digits, isRepair, isDoubtful: isDoubt || digits === 2 || Boolean(value.isDoubtful) }));
   const sure = readings.filter((it) => !it.isRepair), keys = new Set(sure.map(keyOf));
