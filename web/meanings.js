@@ -49,17 +49,15 @@ function cycled(cycles) {
 /** An expression, made of others; `isCalled`, if some function in it was typed as s(2). */
 const expression = (text, atoms = null, ...parts) => (text.length <= LIMITS.bytes ? { text, atoms, isCalled: parts.some((it) => it.isCalled) } : tooMuch());
 const atomText = (family, list) => `${family}[${list.join(",")}]`;
-/** (The functions of a product are listed when they are asked for, so that a long product is made in linear time.) */
+const sizeOfProduct = (it) => it.count ?? (it.atoms ? it.atoms.length : Infinity);
+/** The functions of a product, which are listed when they are asked for, so that a long product is made in linear time. */
+function atomsOf(it, last = []) {
+  for (; it.factors; it = it.factors[0]) last.unshift(...it.factors[1].atoms);
+  return [...it.atoms, ...last];
+}
 function timesText(a, b) {
   const made = expression(`${a.text}*${b.text}`, null, a, b), count = sizeOfProduct(a) + sizeOfProduct(b);
   return made && count <= LIMITS.degree ? { ...made, factors: [a, b], count, get atoms() { return atomsOf(this); } } : made;
-}
-const sizeOfProduct = (it) => it.count ?? (it.atoms ? it.atoms.length : Infinity);
-/** The functions of a product of products. */
-function atomsOf(it) {
-  const last = [];
-  for (; it.factors; it = it.factors[0]) last.unshift(...it.factors[1].atoms);
-  return [...it.atoms, ...last];
 }
 
 /** An expression as often as an exponent says, as factors; `rest` is a further factor whose digits stood right after the exponent. */
@@ -260,40 +258,30 @@ const MEANINGS = {
   expandWith: withOptions((options, basis, it) => (["", "-m"].includes(options) ? reading("expand", options, basis, it.text) : null)),
   composed: (f, g) => [bared(f), bared(g)],
   plethysmBare: (both) => (hasFunction(both[0]) ? inEachBasis("plethysm", ...both) : null),
-  plethysmOf: (basis, ...both) => MEANINGS.plethysm(basis, MEANINGS.composed(...both)),
-  fromTo: (it, from, basis) => (it.atoms[0][0] === from ? MEANINGS.expand(basis, it) : null),
   plethysm: (basis, both) => reading("plethysm", basis, ...both),
   inLetters: (it, count) => ({ list: it.atoms[0][1], count }),
   multInLetters: (all) => (all.every((it) => it.count === all[0].count) ? productOf(all.map((it) => it.list), variables(all[0].count)) : null),
   littlewood: ([a], [b]) => (isPartition(a) && isPartition(b) ? eitherOf([atomText("s", b), atomText("s", a)], [atomText("s", a), atomText("s", b)]) : null),
-  pairInVariables: (a, b, count) => MEANINGS.inVariables(timesText(a, b), count),
   inVariables: (it, count) => productOf(schurFactors(it), variables(count)),
   // products of lists
   product: (lists, count) => productOf(lists, variables(count)),
-  productPair: (...lists) => productOf(lists),
   multOfS: (lists) => (lists.some((it) => it.length === 1 && it[0].length > 1) ? null : productOf(lists)),
   schurOfS: (list) => (isPartition(list) && !(list.length === 1 && list[0].length > 1) ? inEachBasis("expand", atomText("s", list)) : null),
   listProduct: (lists) => doubtful({ isDoubtful: lists.some((it) => it.how === "blanks") || lists.every((it) => it.how === "digits") }, productOf(lists)),
   // skew shapes, coefficients, numbers
   skew: (lists, count) => skewOf("skew", lists, variables(count)),
-  skewPair: (...lists) => skewOf("skew", lists),
   inOrder: (a, b) => (skewOf("skew", [b, a]) ? [b, a] : [a, b]),
-  ribbon: (rows) => {
-    const ends = rows.map((_, i) => sumOf(rows.slice(i)) - (rows.length - 1 - i));
-    return rows.every((it) => Number(it) > 0) ? skewOf("skew", [ends.map(String), partition(ends.slice(1).map((it) => String(it - 1)))]) : null;
-  },
+  // (the rows of a ribbon begin where the next one ends)
+  ribbon: (rows, ends = rows.map((_, i) => sumOf(rows.slice(i)) - (rows.length - 1 - i))) => (rows.every((it) => Number(it) > 0) ? skewOf("skew", [ends.map(String), partition(ends.slice(1).map((it) => String(it - 1)))]) : null),
   skewIn: (lists, basis) => (basis === "s" ? skewOf("skew", lists) : null),
   shapeOnly: (...lists) => eitherOf(skewOf("skew", lists), skewOf("tab", lists)),
   likeSchur: ({ atoms: [[family, list]] }) => (family === "s" || (family === "h" && list.length === 1) ? list : family === "e" && list.length === 1 ? copies("1", list[0]) : null),
   coproduct: (list) => (isPartition(list) ? reading("coprod", list) : null),
   coef: (outer, factors) => coefOf([outer, ...factors]),
   coefWithPair: (outer, factors) => inSomeOrder(coefOf([outer, ...factors]), [outer, ...factors]),
-  coefficientAt: (family, list, it) => coefficientAt(family, partition(descending(list)), it),
   coefficientIn: (atom, it) => coefficientAt(...atom.atoms[0], it),
   coefficientInPlethysm: (atom, both) => asking(reading("plethysm", atom.atoms[0][0], ...both), { kind: "c", at: atom.atoms[0][1] }),
-  // (how often each letter comes, by the numbers of the letters)
-  monomial: (letter, power) => MEANINGS.monomialWith([], letter, power),
-  monomialWith: (list, letter, [times, rest] = ["1", ""]) => (rest || Number(letter) > LIMITS.rows || Number(letter) < 1 ? null : Array.from({ length: Math.max(list.length, Number(letter)) }, (_, i) => String(Number(list[i] ?? 0) + (i + 1 === Number(letter) ? Number(times) : 0)))),
+  monomial: (letters) => (letters.includes("0") ? null : MEANINGS.atom("m", descending([...new Set(letters)].map((it) => String(letters.filter((other) => other === it).length))))),
   kostka: (lists) => kostkaOf(...lists),
   allKostka: (family, list) => (family === "m" || isPartition(descending(list)) ? reading("expand", family === "m" ? "m" : "s", atomText(family === "m" ? "s" : "h", family === "m" ? list : descending(list))) : null),
   convert: (from, basis, list) => (isPartition(list) ? reading("expand", basis, atomText(from, list)) : null),
@@ -303,7 +291,6 @@ const MEANINGS = {
   orSize: (list) => doubtful({ isAlone: !list[1] && list.how }, standardOf(list)),
   standardSkew: ([outer, inner]) => (isPartition(outer) && isPartition(inner) && sumOf(inner) <= sumOf(outer) ? kostkaSkew([outer, inner], copies("1", sumOf(outer) - sumOf(inner))) : null),
   ofSize: (letters, list) => (sumOf(list) === Number(letters) ? list : null),
-  characterInSize: (list, letters, mu) => (sumOf(list) === Number(letters) ? characterOf(list, mu) : null),
   characterAtCycle: (list, cycle) => (Number(cycle) <= sumOf(list) ? characterOf(list, [cycle, ...(copies("1", sumOf(list) - Number(cycle)) || [])]) : null),
   characterOnly: (list) => (isPartition(list) ? eitherOf(standardOf(list), reading("expand p", atomText("s", list))) : null),
   inner: (a, b) => scalarProduct(a, b) || scalarProduct(b, a),
@@ -344,7 +331,6 @@ const MEANINGS = {
     const affine = from(isAffine, (list) => ofLabels(list.slice(1))), dimensions = rows === "2" && from(isDimension, ([number]) => [String(number - 1)]);
     return eitherOf(it && fusionOf(it, rows, level), rows !== "2" && from(isOf(rows), ofLabels), affine, dimensions);
   },
-  spaceOf: (k, n) => MEANINGS.space("quantum", boxOf(k, n - k)),
   inducedTo: (lists, letters) => (sizeOfAll(lists) === Number(letters) ? productOf(lists) : null),
   inducedByOne: (letters, upTo, list) => (sumOf(list) === Number(letters) && Number(upTo) === sumOf(list) + 1 ? productOf([list, ["1"]]) : null),
   induced: (groups, letters, lists) => (isInducedTo(groups, letters) && groups.join() === lists.map((it) => String(sumOf(it))).join() ? productOf(lists) : null),

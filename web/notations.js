@@ -301,13 +301,14 @@ Question = Omega -> bare
   | Composed In Basis -> plethysm 3 1
   | Family ~( Composed ) -> plethysm
   | symmetrica? .? t ~_ InSymmetrica ~_ InSymmetrica ( List ) -> convert 5 7 9
-  | Convert? Atom from Family In Basis -> fromTo
+  | Convert? FromFamily In Basis -> expand 4 2
   | scalar ( Sum , Sum ) -> inner
 ToBasis = tos -> word s  # Stembridge's SF, and Macaulay2
   | toe -> word e
   | toh -> word h
   | top -> word p
   | tom -> word m
+FromFamily = Atom from Family -> named 3 1
 Composed = plethysm ( Arguments ) -> 3
 InSymmetrica = schur -> word s
   | powsym -> word p
@@ -434,8 +435,13 @@ Pair "two partitions" = Cells -> 1
 Bracketed = Round -> 1
   | Square -> 1
 Down2 = ~_ ~{ Pair } -> 3
-Monomial = XLetter Exp? -> monomial
-  | Monomial *? XLetter Exp? -> monomialWith 1 3 4
+Monomial = XPower -> 1
+  | Monomial *? XPower -> join
+XPower = XLetter -> part
+  | XLetter ~^ ~NUM -> part
+  | XLetter ~^ ~{ NUM } -> part
+  | XLetter ~sup -> part
+OfMonomial = Monomial -> monomial
 CoefName = LR coefficient|number -> ""
   | littlewood - richardson coefficient|number -> ""
 Coefficient = c Above Down2 -> coef
@@ -450,16 +456,17 @@ Question = CoefName? for? of? Coefficient -> 4
   | c Down2 AllNu? -> ? product 2  # no outer partition: all of them
   | c Down2 AllAbove AllNu? -> product 2
   | c AllAbove Down2 AllNu? -> product 3
-  | c Above ~_ ~{ Cell ,? Greek } -> skewPair
+  | SkewOfC -> skew
   | c Above Down2 -> ? ofSchubert  # c^{231}_{132,213}
   | c Down2 Above -> ? ofSchubert 3 2
+SkewOfC = c Above ~_ ~{ Cell ,? Greek } -> list 2 5
 AllNu = for all Greek -> ""
 AllAbove = ~^ Greek -> ""
   | ~^ ~{ Greek } -> ""
 CoefOf = plethysm? coefficient|multiplicity|mult of? -> ""
   | CoefName of? for? -> ""
 Question = CoefOf Atom in Term -> coefficientIn
-  | CoefOf Monomial in Term -> coefficientAt m
+  | CoefOf OfMonomial in Term -> coefficientIn
   | CoefOf Atom in product of? And -> coefficientIn 2 6
   | CoefOf Atom in product of? Term -> coefficientIn 2 6
   | how many|often times? does Atom occur|appear in Term -> coefficientIn 5 8
@@ -552,6 +559,7 @@ AtClass = evaluated? at|on|for cycle|conjugacy? type|class? of? cycle? type? -> 
 Cycle = NUM - cycle -> 1
   | transposition -> word "2"
   | identity -> word "1"
+AboveOfS = Above OfS -> ofSize 2 1
 Question = χ Above ~( Inside ) -> characterOf  # χ^{31}(22)
   | χ Above ~( Round ) -> characterOf
   | χ Above Lower -> characterOf
@@ -565,7 +573,7 @@ Question = χ Above ~( Inside ) -> characterOf  # χ^{31}(22)
   | χ Round Round -> characterOf
   | Symmetrica? charvalue ( Lam , Lam ) -> characterOf
   | Character? χ Above AtClass Arg -> characterOf 3 5
-  | Character? χ Above OfS AtClass Arg -> characterInSize 3 4 6
+  | Character? χ AboveOfS AtClass Arg -> characterOf 3 5
   | Character? χ Above AtClass Cycle -> characterAtCycle 3 5
   | Character Module_ AtClass Arg -> characterOf
   | Character Module_ AtClass Cycle -> characterAtCycle
@@ -684,13 +692,14 @@ Star = ~Ast -> ""
   | ~^ ~{ ~Ast ~} -> ""
   | ~^ ~{ NUM } -> ""
 InField = , Z|ℤ|Q|ℚ|C|ℂ -> ""
+KAndN = NUM , NUM -> grassmannian
 Small = small? quantum cohomology ring? -> ""
 Space "Gr(k,n)" = GrOf -> 1
   | H|A Star ~( GrOf InField? ) -> 4
   | cohomology|chow ring? of GrOf -> 4
   | QH Star? ~( GrOf InField? ) -> space quantum 4
   | Small of? GrOf -> space quantum
-  | QH ( NUM , NUM ) -> ? spaceOf
+  | QH ( KAndN ) -> ? space quantum
   | qcoh of? GrOf -> space quantum
 Where = Space -> 1
   | in|of|for|on Space -> 2
@@ -849,6 +858,8 @@ Into = ForV -> ""
 Product_ = product of? -> ""
   | TensorOf -> ""
 Littlewood = ListFactor ⊗ ListFactor -> littlewood
+FunctorOf = Functor of Functor -> composed
+ModulePair = Module By Module -> timesText
 Restrict = restriction|restrict|res of? specht? module? -> ""
 Sn = S ~_ ~NUM -> 3
   | S ~_ ~{ NUM } -> 4
@@ -868,9 +879,9 @@ Question = Tensor -> ! product  # of modules of GL
   | clebsch - gordan TensorOf? ForGl ~: TensorPair -> product 7 5
   | Modules Into? -> inSchur 1
   | Modules Irreducibles? ForGl -> inVariables 1 3
-  | TensorOf Module By Module ForGl -> pairInVariables
+  | TensorOf ModulePair ForGl -> inVariables
   | Composite Into? -> plethysm s 1
-  | Functor of Functor -> plethysmOf s
+  | FunctorOf -> plethysm s
   | CompositeIn Into? -> ! plethysm s 1
   | Specht -> ? product  # induced, or the Kronecker product
   | ind ~( Specht ) -> product
