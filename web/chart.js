@@ -1,7 +1,7 @@
 // A chart parser (Earley, which looks at the next sign): all trees of a line of signs, as the set of their values.
 
 /** The most items and cuts of a chart, and the most values of a rule at a place: beyond them a line is too long, or has too many readings, to be read here. */
-const MOST_ITEMS = 24500;
+const MOST_ITEMS = 20000;
 const MOST_CUTS = 24000;
 const MOST_VALUES = 24;
 
@@ -17,7 +17,7 @@ function readTable(table) {
   const alternatives = [], classes = new Map(), labels = new Map(), same = new Map();
   let name = "";
   for (const line of table.split("\n").map((it) => it.replace(/\s+# .*$|^#.*$/, "").trim())) {
-    const found = /^(?:(?!\| )(\S+)(?: "([^"]*)")? )?([:~=]?=|\|) (.*)$/.exec(line);
+    const found = /^(?:(?!\|)(\S+)(?: "([^"]*)")? )?([:~=]?=|\|) ?(.*)$/.exec(line);
     if (!found) continue;
     const [, own, label, kind, right] = found;
     name = own ?? name;
@@ -25,8 +25,8 @@ function readTable(table) {
     if (kind === "==") right.split(" ").forEach((it) => same.set(it, name));
     else if (kind === ":=" || kind === "~=") classes.set(name, { signs: right.split(" "), isKept: kind === ":=" });
     else {
-      const [, items, mark, meaning] = /^(.*?) -> ([!?] )?(.+)$/.exec(right);
-      alternatives.push({ name, items: items.split(" ").map(itemOf), isRepair: mark === "! ", isDoubt: mark === "? ", meaning: meaning.split(" ") });
+      const [, items, mark, meaning] = /^(.*?) ?-> ?([!?] )?(.*)$/.exec(right);
+      alternatives.push({ name, items: items.split(" ").map(itemOf), isRepair: mark === "! ", isDoubt: mark === "? ", meaning: (meaning || '""').split(" ") });
     }
   }
   return { alternatives, classes, labels, same };
@@ -56,122 +56,137 @@ function grammarOf(table, meanings) {
   const signsOfItem = (name) => (name.length > 1 && !classes.has(name) ? name.split("|") : [name]).flatMap((it) => (classes.has(it) ? classes.get(it).signs : [it]));
   const isValued = (name) => (ids.has(name) ? !silent.has(name) : classes.has(name) ? classes.get(name).isKept : name === "NUM" || name === "sup");
   const literals = new Set(alternatives.flatMap((it) => it.items).filter((it) => !ids.has(it.name)).flatMap((it) => signsOfItem(it.name)));
-  const kinds = new Map([...literals].map((it, i) => [it, i])), states = [], startsOf = names.map(() => []), firstOfRule = names.map(() => new Uint8Array(kinds.size + 1));
-  const firstOf = (name) => (ids.has(name) ? firstOfRule[ids.get(name)] : signsOfItem(name).reduce((first, it) => ((first[kinds.get(it)] = 1), first), new Uint8Array(kinds.size + 1)));
+  const kinds = new Map([...literals].map((it, i) => [it, i])), states = [], startsOf = names.map(() => []), firstOf = new Map(names.map((name) => [name, new Uint8Array(kinds.size + 2)]));
+  const firstOfItem = (name) => {
+    if (!firstOf.has(name)) firstOf.set(name, signsOfItem(name).reduce((first, it) => ((first[kinds.get(it)] = 1), first), new Uint8Array(kinds.size + 2)));
+    return firstOf.get(name);
+  };
   for (const { name, items: all, meaning, isRepair, isDoubt } of alternatives) {
     const give = giver({ items: all, meaning }, isValued, meanings), id = ids.get(name);
     for (const items of choicesOf(all)) {
-      const of = { id, name, items, give, digits: 0, isRepair, isDoubt, count: all.length };
+      const isSame = all.length === 1 && meaning[0] === "1" && ids.has(all[0].name) && !isRepair && !isDoubt;
+      const of = { id, name, items, give, digits: 0, isRepair, isDoubt, isSame, count: all.length };
       startsOf[id].push(states.length);
-      items.forEach((item, at) => states.push({ of, at, place: item.place, name: item.name, gap: item.gap, rule: ids.get(item.name) ?? -1, first: firstOf(item.name) }));
+      items.forEach((item, at) => states.push({ of, at, place: item.place, name: item.name, gap: item.gap, rule: ids.get(item.name) ?? -1, first: firstOfItem(item.name) }));
       states.push({ of, at: items.length, gap: 0, rule: -1, first: null });
     }
   }
-  spreadFirsts(states, startsOf, firstOfRule);
+  spreadFirsts(names.map((name, id) => ({ first: firstOf.get(name), begins: [...new Set(startsOf[id].map((it) => states[it].name))] })), ids, firstOfItem);
   const fast = { firsts: states.map((it) => it.first), rules: Int32Array.from(states, (it) => it.rule), gaps: Uint8Array.from(states, (it) => it.gap), ofs: Int32Array.from(states, (it) => it.of.id) };
-  return { states, ids, kinds, labels, same, startsOf, startsBy: new Map(), signsOfItem, words: new Set([...literals].filter((it) => /^[A-Za-z_]{2,}$/.test(it))), ...fast };
+  return { states, ids, kinds, labels, same, startsOf, startsBy: new Map(), signsOfItem, words: new Set([...literals].filter((it) => /^[A-Za-zü_]{2,}$/.test(it))), ...fast };
 }
 
-/** Has each rule begin with what its alternatives begin with. */
-function spreadFirsts(states, startsOf, firstOfRule) {
-  for (let isNew = true; isNew; ) {
-    isNew = false;
-    startsOf.forEach((starts, id) => {
-      for (const start of starts) states[start].first.forEach((is, i) => is > firstOfRule[id][i] && ((firstOfRule[id][i] = 1), (isNew = true)));
-    });
+/** Has each rule begin with what the items begin with that its alternatives can begin with. */
+function spreadFirsts(rules, ids, firstOfItem) {
+  for (const { first, begins } of rules) {
+    const open = [...begins], seen = new Set(open);
+    for (const name of open) {
+      if (!ids.has(name)) firstOfItem(name).forEach((is, i) => is && (first[i] = 1));
+      else for (const it of rules[ids.get(name)].begins) if (!seen.has(it)) seen.add(it), open.push(it);
+    }
   }
 }
 
-/** Puts values into the list under a key of a map, and says whether they are the first there. */
-function putInto(map, key, ...values) {
-  const list = map.get(key);
-  if (list) list.push(...values);
-  else map.set(key, values);
-  return !list;
+/** The alternatives of a rule that can begin with two signs, and the places in its others that the first of them reaches. */
+function startsWith({ states, startsOf, startsBy, firsts, kinds }, id, kind, next) {
+  const wide = kinds.size + 2, key = (id * wide + kind) * wide + next, found = startsBy.get(key);
+  if (found) return found;
+  const open = startsOf[id].filter((it) => firsts[it][kind]), goesOn = (it) => states[it].rule >= 0 || firsts[it + 1] === null || firsts[it + 1][next];
+  const made = { kept: open.filter(goesOn), stopped: open.filter((it) => !goesOn(it)).map((it) => it + 1) };
+  startsBy.set(key, made);
+  return made;
 }
 
-/** The alternatives of a rule that can begin with a sign. */
-function startsWith({ startsOf, startsBy, firsts, kinds }, id, kind) {
-  const key = id * (kinds.size + 1) + kind;
-  if (!startsBy.has(key)) startsBy.set(key, startsOf[id].filter((it) => firsts[it][kind]));
-  return startsBy.get(key);
-}
-
-/** The chart of signs: in each column the items that have come so far, each a state and the place where its alternative begins as one number; which
- * rules wait there; and which have ended there. `far` is how many signs begin some line; `tried` are the states that would go on there. */
+/** The chart of signs: its items, each a state, the place where its alternative begins, the item before it and what comes between them: a node, or a
+ * sign, as -1 less its place; `others` are further pairs of these. A node is a rule that has ended, with the items in which it has. `far` is how many
+ * signs begin some line; `tried` are the states that would go on there. */
 function chartOf(grammar, rule, signs) {
   const { kinds, firsts, rules, gaps, ofs, startsOf } = grammar, length = signs.length, wide = length + 1, root = grammar.ids.get(rule), none = kinds.size;
-  const kind = [...signs.map((it) => kinds.get(it.kind) ?? none), none], blanks = [...signs.map((it, i) => (i === 0 ? 0 : it.gap ? 1 : 2)), 0];
-  const items = Array.from({ length: wide }, () => []), waiting = items.map(() => new Map()), ends = items.map(() => new Map());
+  const kind = [...signs.map((it) => kinds.get(it.kind) ?? none), none + 1, none + 1], blanks = [...signs.map((it, i) => (i === 0 ? 0 : it.gap ? 1 : 2)), 0];
+  const [state, origin, before, between] = Array.from({ length: 4 }, () => new Int32Array(MOST_ITEMS + grammar.states.length)), others = new Map(), nodes = [];
+  // (of each column: its items, and these as numbers; the rules that are awaited there, with the items that wait; and those that have ended there)
+  const columns = Array.from({ length: wide }, () => ({ items: [], keys: [], awaited: [], waiting: [], ended: [], first: 0, isMixed: false }));
   let far = 0, count = 0, tried = [];
-  const add = (at, state, origin) => {
-    const first = firsts[state];
+  const add = (at, next, begin, from, over) => {
+    const first = firsts[next], { items, keys } = columns[at];
     if (first !== null) {
       if (at > far) (far = at), (tried = []);
-      if (at === far) tried.push(state);
+      if (at === far) tried.push(next);
       // (an item that cannot go on here is none)
-      if (at === length || !first[kind[at]] || (gaps[state] !== 0 && gaps[state] === blanks[at])) return;
+      if (!first[kind[at]] || (gaps[next] !== 0 && gaps[next] === blanks[at])) return;
     }
-    const key = state * wide + origin;
-    if (items[at].includes(key)) return;
-    items[at].push(key);
+    const key = next * wide + begin, place = keys.indexOf(key);
+    if (place >= 0) return void others.set(items[place], [...(others.get(items[place]) ?? []), [from, over]]);
+    keys.push(key);
+    items.push(count);
+    (state[count] = next), (origin[count] = begin), (before[count] = from), (between[count] = over);
     count += 1;
   };
-  const end = (at, state, origin) => {
-    if (!putInto(ends[at], ofs[state] * wide + origin, state)) return;
-    const open = waiting[origin].get(ofs[state]) || [];
-    for (let k = 0; k < open.length; k += 2) add(at, open[k] + 1, open[k + 1]);
+  const end = (at, id, begin, item) => {
+    const here = columns[at], key = id * wide + begin, place = here.ended.indexOf(key);
+    if (place >= 0) return void nodes[here.first + place].push(item);
+    if (here.ended.length === 0) here.first = nodes.length;
+    else if (here.ended[here.ended.length - 1] % wide < begin) here.isMixed = true;
+    here.ended.push(key);
+    const { awaited, waiting } = columns[begin], i = awaited.indexOf(id), node = nodes.push([item]) - 1;
+    if (i >= 0) for (const it of waiting[i]) add(at, state[it] + 1, origin[it], it, node);
   };
-  for (const it of startsOf[root]) add(0, it, 0);
+  const wait = (at, id, item) => {
+    const { awaited, waiting } = columns[at], place = awaited.indexOf(id);
+    if (place >= 0) return void waiting[place].push(item);
+    awaited.push(id);
+    waiting.push([item]);
+    const { kept, stopped } = startsWith(grammar, id, kind[at], kind[at + 1]);
+    for (const it of kept) add(at, it, at, -1, 0);
+    if (stopped.length === 0 || at + 1 < far) return;
+    if (at + 1 > far) (far = at + 1), (tried = []);
+    tried.push(...stopped);
+  };
+  for (const it of startsOf[root]) add(0, it, 0, -1, 0);
   for (let at = 0; at <= length && count < MOST_ITEMS; at += 1) {
-    for (let i = 0; i < items[at].length && count < MOST_ITEMS; i += 1) {
-      const key = items[at][i], origin = key % wide, state = (key - origin) / wide, next = rules[state];
-      if (firsts[state] === null) end(at, state, origin);
-      else if (next < 0) add(at + 1, state + 1, origin);
-      else if (putInto(waiting[at], next, state, origin)) for (const it of startsWith(grammar, next, kind[at])) add(at, it, at);
+    const { items } = columns[at];
+    for (let i = 0; i < items.length && count < MOST_ITEMS; i += 1) {
+      const item = items[i], now = state[item];
+      if (firsts[now] === null) end(at, ofs[now], origin[item], item);
+      else if (rules[now] < 0) add(at + 1, now + 1, origin[item], item, -1 - at);
+      else wait(at, rules[now], item);
     }
   }
-  return { items, ends, length, wide, root, far, tried, isLong: count >= MOST_ITEMS };
+  return { state, before, between, others, nodes, columns, root: columns[length].first + columns[length].ended.indexOf(root * wide), isWhole: columns[length].ended.includes(root * wide), far, tried, isLong: count >= MOST_ITEMS };
 }
 
 /** All values of a rule for all signs: `{values, isMany, isWhole, far, tried}`. `isMany`: there are too many, or the signs are too many. */
 function parsed(grammar, rule, signs) {
-  const chart = chartOf(grammar, rule, signs), { ends, length, wide, root, far, isLong, tried } = chart;
-  const isWhole = !isLong && length > 0 && ends[length].has(root * wide);
+  const chart = chartOf(grammar, rule, signs), { far, isLong, tried } = chart, isWhole = !isLong && signs.length > 0 && chart.isWhole;
   const found = isWhole ? valuesOf(grammar, chart, signs) : { values: [], isMany: isLong };
   return { ...found, isWhole, far, tried: isLong ? [] : tried.map((it) => grammar.states[it]) };
 }
 
-/** The places at which the item before a state can have begun, in an alternative that began at `origin`. */
-function cutsOf({ states, rules }, { items, ends, wide }, state, origin, end) {
-  const least = rules[state - 1] * wide, isFirst = states[state - 1].at === 0, cuts = [];
-  if (least < 0) return [end - 1];
-  for (const key of ends[end].keys()) {
-    const cut = key - least, isOfRule = cut >= 0 && cut < wide;
-    if (isOfRule && (isFirst ? cut === origin : cut >= origin && items[cut].includes((state - 1) * wide + origin))) cuts.push(cut);
-  }
-  return cuts;
-}
-
-/** The nodes of all trees: each a rule with the places where it begins and ends, the short ones first; null if there are too many. */
-function nodesOf(grammar, chart) {
-  const { states, rules } = grammar, { ends, length, wide, root } = chart, nodes = [[root, 0, length]], seen = ends.map(() => []), walked = ends.map(() => []);
+/** The nodes of all trees, the short ones first; null if there are too many. */
+function nodesOf({ state, before, between, others, nodes, columns, root }, wide) {
+  const isWalked = new Uint8Array(state.length), isNeeded = new Uint8Array(nodes.length), open = [...nodes[root]];
   let cuts = 0;
-  for (let i = 0; i < nodes.length && cuts < MOST_CUTS; i += 1) {
-    const [id, begin, end] = nodes[i], open = ends[end].get(id * wide + begin).flatMap((state) => [state, end]);
-    while (open.length > 0) {
-      const at = open.pop(), state = open.pop(), rule = rules[state - 1], key = state * wide + begin;
-      if (states[state].at === 0 || walked[at].includes(key)) continue;
-      walked[at].push(key);
-      for (const cut of cutsOf(grammar, chart, state, begin, at)) {
-        const node = rule * wide + cut;
-        if (rule >= 0 && !seen[at].includes(node)) seen[at].push(node), nodes.push([rule, cut, at]);
-        open.push(state - 1, cut);
-        cuts += 1;
-      }
-    }
+  const take = (from, over) => {
+    cuts += 1;
+    open.push(from);
+    if (over >= 0 && isNeeded[over] === 0) (isNeeded[over] = 1), open.push(...nodes[over]);
+  };
+  isNeeded[root] = 1;
+  while (open.length > 0 && cuts < MOST_CUTS) {
+    const item = open.pop();
+    if (isWalked[item] === 1 || before[item] < 0) continue;
+    isWalked[item] = 1;
+    take(before[item], between[item]);
+    for (const [from, over] of others.get(item) ?? []) take(from, over);
   }
-  return cuts < MOST_CUTS ? nodes.sort((a, b) => a[2] - b[2] || b[1] - a[1]) : null;
+  const found = [];
+  for (const { ended, first, isMixed } of columns) {
+    const needed = [];
+    for (let i = 0; i < ended.length; i += 1) if (isNeeded[first + i] === 1) needed.push(first + i);
+    // (those of a column were found the short ones first, but for some)
+    found.push(...(isMixed ? needed.sort((a, b) => (ended[b - first] % wide) - (ended[a - first] % wide)) : needed));
+  }
+  return cuts < MOST_CUTS ? found : null;
 }
 
 /** The values of one node, each once; where two trees have the same one it is a repair, or doubtful, only if it is so in both. */
@@ -192,37 +207,42 @@ function marksOf(a, b) {
 }
 
 /** The values of all trees of a parsed line, each once: `{value, digits, isRepair, isDoubt}`. A line has one convention about digits. */
-function valuesOf(grammar, chart, signs) {
-  const { states } = grammar, { ends, length, wide, root } = chart, nodes = nodesOf(grammar, chart), memo = ends.map(() => new Map());
-  let count = 0, isMany = nodes === null;
+function valuesOf({ states }, chart, signs) {
+  const { state, before, between, others, nodes, root } = chart, needed = nodesOf(chart, signs.length + 1), known = Array(nodes.length).fill(null);
+  let count = 0, isMany = needed === null;
   const end = ({ give }, values, marks, found) => {
     const given = give(values);
-    for (const it of given && given.isEither ? given : [{ value: given }]) {
-      const all = it.value === null || it.value === undefined ? null : marksOf(marks, it);
-      if (all && !putValue(found, { value: it.value, digits: all.digits, isRepair: all.isRepair, isDoubt: all.isDoubt })) isMany = true;
-    }
+    if (given && given.isEither) for (const it of given) put(it.value, marksOf(marks, it), found);
+    else put(given, marks, found);
+  };
+  const put = (value, marks, found) => {
+    if (value === null || value === undefined || marks === null) return;
+    if (!putValue(found, { value, digits: marks.digits, isRepair: marks.isRepair, isDoubt: marks.isDoubt })) isMany = true;
   };
   // (the values of an alternative, filled in from its last item to its first one)
-  const fill = (state, begin, at, values, marks, found) => {
-    if (states[state].at === 0) return end(states[state].of, values, marks, found);
-    const { rule, place } = states[state - 1];
-    if (rule < 0) return (values[place] = signs[at - 1].value), fill(state - 1, begin, at - 1, values, marks, found);
-    for (const cut of cutsOf(grammar, chart, state, begin, at)) {
-      for (const it of node(rule, cut, at)) {
-        const all = marksOf(marks, it);
-        if ((count += 1) > MOST_CUTS) isMany = true;
-        if (all && !isMany) (values[place] = it.value), fill(state - 1, begin, cut, values, all, found);
-      }
+  const fill = (item, values, marks, found) => {
+    if (before[item] < 0) return end(states[state[item]].of, values, marks, found);
+    take(item, before[item], between[item], values, marks, found);
+    for (const [from, over] of others.get(item) ?? []) take(item, from, over, values, marks, found);
+  };
+  const take = (item, from, over, values, marks, found) => {
+    const { place } = states[state[item] - 1];
+    if (over < 0) return (values[place] = signs[-1 - over].value), fill(from, values, marks, found);
+    for (const it of valuesOfNode(over)) {
+      const all = marksOf(marks, it);
+      if ((count += 1) > MOST_CUTS) isMany = true;
+      if (all && !isMany) (values[place] = it.value), fill(from, values, all, found);
     }
   };
-  const node = (id, begin, at) => {
-    const key = id * wide + begin, found = [];
-    if (memo[at].has(key)) return memo[at].get(key);
-    for (const state of ends[at].get(key)) if (!isMany) fill(state, begin, at, Array(states[state].of.count), states[state].of, found);
-    memo[at].set(key, found);
-    return found;
+  const valuesOfNode = (node) => {
+    if (known[node] !== null) return known[node];
+    const found = [], [first, more] = nodes[node];
+    // (an alternative that is another rule alone has its values)
+    if (more === undefined && states[state[first]].of.isSame && !others.has(first)) return (known[node] = valuesOfNode(between[first]));
+    for (const item of nodes[node]) if (!isMany) fill(item, Array(states[state[item]].of.count), states[state[item]].of, found);
+    return (known[node] = found);
   };
   // (the short ones first, so that nothing is deep)
-  for (const it of nodes ?? []) node(...it);
-  return { values: isMany ? [] : node(root, 0, length), isMany };
+  for (const it of needed ?? []) valuesOfNode(it);
+  return { values: isMany ? [] : valuesOfNode(root), isMany };
 }

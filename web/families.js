@@ -269,6 +269,8 @@ function familyRead(typed) {
   try {
     return { line, changes, family: familyOf((found[1] ?? "").trimEnd(), boundsOf(line, found[0].length), line) };
   } catch (error) {
+    // (such as F_w for w = 2143 in the Schur basis)
+    if (error instanceof NoFamily && !/\.\.|[{∈]/u.test(line.slice(found[0].length)) && readingsOf(line).sure.length > 0) return null;
     if (error instanceof NoFamily) return unread(line, changes, error.message, [], error.at + error.length > 0 ? { at: error.at, length: error.length } : {});
     throw error;
   }

@@ -49,7 +49,16 @@ function cycled(cycles) {
 /** An expression, made of others; `isCalled`, if some function in it was typed as s(2). */
 const expression = (text, atoms = null, ...parts) => (text.length <= LIMITS.bytes ? { text, atoms, isCalled: parts.some((it) => it.isCalled) } : tooMuch());
 const atomText = (family, list) => `${family}[${list.join(",")}]`;
-const timesText = (a, b) => expression(`${a.text}*${b.text}`, a.atoms && b.atoms && a.atoms.length + b.atoms.length <= LIMITS.degree ? [...a.atoms, ...b.atoms] : null, a, b);
+const sizeOfProduct = (it) => it.count ?? (it.atoms ? it.atoms.length : Infinity);
+/** The functions of a product, which are listed when they are asked for, so that a long product is made in linear time. */
+function atomsOf(it, last = []) {
+  for (; it.factors; it = it.factors[0]) last.unshift(...it.factors[1].atoms);
+  return [...it.atoms, ...last];
+}
+function timesText(a, b) {
+  const made = expression(`${a.text}*${b.text}`, null, a, b), count = sizeOfProduct(a) + sizeOfProduct(b);
+  return made && count <= LIMITS.degree ? { ...made, factors: [a, b], count, get atoms() { return atomsOf(this); } } : made;
+}
 
 /** An expression as often as an exponent says, as factors; `rest` is a further factor whose digits stood right after the exponent. */
 function powerOf(it, [times, rest]) {
@@ -154,10 +163,8 @@ const dualOf = (list, space) => (isPartition(list) && isInBox(list, space) ? Arr
 function classesIn(given, space) {
   const lists = space && given && given.map((it) => inFull(it, space));
   if (!areMany(lists) || !lists.every(isPartition)) return null;
-  const made = reading("quantum", String(space.rows), String(space.columns), between(lists));
-  if (space.isQuantum) return made;
-  const ordinary = asking(made, { kind: "H" }, !lists.every((it) => isInBox(it, space)));
-  return given.how === "star" ? eitherOf(ordinary, made) : ordinary;
+  const made = reading("quantum", String(space.rows), String(space.columns), between(lists)), ordinary = asking(made, { kind: "H" }, !lists.every((it) => isInBox(it, space)));
+  return given.how === (space.isQuantum ? "cup" : "star") ? eitherOf(ordinary, made) : space.isQuantum ? made : ordinary;
 }
 /** The coefficient of a class in a product of classes: without q, or with the power of q that the degrees leave. */
 function classCoefficient(list, lists, space, q = 0) {
@@ -203,7 +210,7 @@ const MEANINGS = {
   // numbers and lists
   part: (number, times = "1") => (isPlain(number) ? copies(number, times) : null),
   partPower: (number, times) => (isPlain(number) ? eitherOf(copies(number, times), times.length > 1 && isDigits(times) && joined(copies(number, times[0]), [...times.slice(1)])) : null),
-  digits: (base, exponent = "1") => digitsWithPower(base, exponent, true),
+  digits: (base, exponent = "1") => (base.length === 1 && exponent === "1" ? [base] : digitsWithPower(base, exponent, true)),
   digitsPower: (base, exponent) => digitsWithPower(base, exponent, false),
   letters: (number) => [...number],
   ones: (count) => copies("1", count),
@@ -217,14 +224,25 @@ const MEANINGS = {
   add: (list, more) => (list.length < 2 * LIMITS.values ? [...list, more] : tooMuch()),
   addAll: (list, more) => few(typedWith(list.how, [...list, ...more])),
   addStarred: (list, more) => MEANINGS.addAll(typedWith("star", list), more),
+  addCup: (list, more) => MEANINGS.addAll(typedWith("cup", list), more),
+  cup: (list) => typedWith("cup", list),
   listPower: (list, [times, rest]) => (rest || Number(times) < 1 ? null : Number(times) > LIMITS.factors ? tooMuch() : Array(Number(times)).fill(list)),
   // expressions
-  atom: (family, list) => (isPartition(list) ? { ...expression(atomText(family, list), [[family, list]]), isCalled: list.how === "called" } : null),
+  atom: (family, list) => (isPartition(list) ? expression(atomText(family, list), [[family, list]], { isCalled: list.how === "called" }) : null),
+  named: (family, it) => (it.atoms[0][0] === family ? it : null),
   omega: (family, list) => {
     const made = OMEGA[family] ? MEANINGS.atom(OMEGA[family], family === "s" ? conjugate(list) : list) : null;
     return made && family === "p" && list.filter((it) => Number(it) % 2 === 0).length % 2 === 1 ? expression(`-1*${made.text}`) : made;
   },
-  paren: (it) => ({ ...it, text: `(${it.text})`, atoms: null, inside: it.text }),
+  paren: (it) => ({ text: `(${it.text})`, atoms: null, isCalled: it.isCalled, inside: it.text }),
+  determinant: (rows) => {
+    const text = (it) => (/[-+]/.test(it.text) ? `(${it.text})` : it.text);
+    const terms = ([row, ...others], columns, sign) =>
+      row ? columns.flatMap((j, i) => terms(others, columns.filter((it) => it !== j), i % 2 === 1 ? -sign : sign).map(([of, ...texts]) => [of, text(row[j]), ...texts])) : [[sign]];
+    if (rows.length > 4 || !rows.every((it) => it.length === rows.length)) return null;
+    const all = terms(rows, [...rows.keys()], 1).map(([sign, ...texts], i) => (sign < 0 ? "-" : i > 0 ? "+" : "") + texts.join("*"));
+    return MEANINGS.paren(expression(all.join(""), null, ...rows.flat()));
+  },
   scalar: (number) => expression(number),
   fraction: (it, below) => expression(`${it.text}/${below}`),
   minus: (it) => expression(`-${it.text}`, null, it),
@@ -243,6 +261,7 @@ const MEANINGS = {
   plethysm: (basis, both) => reading("plethysm", basis, ...both),
   inLetters: (it, count) => ({ list: it.atoms[0][1], count }),
   multInLetters: (all) => (all.every((it) => it.count === all[0].count) ? productOf(all.map((it) => it.list), variables(all[0].count)) : null),
+  littlewood: ([a], [b]) => (isPartition(a) && isPartition(b) ? eitherOf([atomText("s", b), atomText("s", a)], [atomText("s", a), atomText("s", b)]) : null),
   inVariables: (it, count) => productOf(schurFactors(it), variables(count)),
   // products of lists
   product: (lists, count) => productOf(lists, variables(count)),
@@ -251,14 +270,22 @@ const MEANINGS = {
   listProduct: (lists) => doubtful({ isDoubtful: lists.some((it) => it.how === "blanks") || lists.every((it) => it.how === "digits") }, productOf(lists)),
   // skew shapes, coefficients, numbers
   skew: (lists, count) => skewOf("skew", lists, variables(count)),
+  inOrder: (a, b) => (skewOf("skew", [b, a]) ? [b, a] : [a, b]),
+  // (the rows of a ribbon begin where the next one ends)
+  ribbon: (rows, ends = rows.map((_, i) => sumOf(rows.slice(i)) - (rows.length - 1 - i))) => (rows.every((it) => Number(it) > 0) ? skewOf("skew", [ends.map(String), partition(ends.slice(1).map((it) => String(it - 1)))]) : null),
   skewIn: (lists, basis) => (basis === "s" ? skewOf("skew", lists) : null),
   shapeOnly: (...lists) => eitherOf(skewOf("skew", lists), skewOf("tab", lists)),
+  likeSchur: ({ atoms: [[family, list]] }) => (family === "s" || (family === "h" && list.length === 1) ? list : family === "e" && list.length === 1 ? copies("1", list[0]) : null),
   coproduct: (list) => (isPartition(list) ? reading("coprod", list) : null),
   coef: (outer, factors) => coefOf([outer, ...factors]),
   coefWithPair: (outer, factors) => inSomeOrder(coefOf([outer, ...factors]), [outer, ...factors]),
   coefficientIn: (atom, it) => coefficientAt(...atom.atoms[0], it),
   coefficientInPlethysm: (atom, both) => asking(reading("plethysm", atom.atoms[0][0], ...both), { kind: "c", at: atom.atoms[0][1] }),
+  monomial: (letters) => (letters.includes("0") ? null : MEANINGS.atom("m", descending([...new Set(letters)].map((it) => String(letters.filter((other) => other === it).length))))),
   kostka: (lists) => kostkaOf(...lists),
+  allKostka: (family, list) => (family === "m" || isPartition(descending(list)) ? reading("expand", family === "m" ? "m" : "s", atomText(family === "m" ? "s" : "h", family === "m" ? list : descending(list))) : null),
+  convert: (from, basis, list) => (isPartition(list) ? reading("expand", basis, atomText(from, list)) : null),
+  ofSchubert: (outer, lists) => (areLetters([outer, ...lists]) && ![outer, ...lists].every(isPartition) ? MEANINGS.permuted("schubmult", lists) : null),
   kostkaAll: (numbers) => eitherOf(...numbers.slice(1).map((_, i) => kostkaOf(numbers.slice(0, i + 1), numbers.slice(i + 1))).filter((it) => it && !it.zero)),
   // (one number without a comma: SYT(5) are those of a size, too, and S^3 is a symmetric power, or a sphere)
   orSize: (list) => doubtful({ isAlone: !list[1] && list.how }, standardOf(list)),
@@ -277,8 +304,13 @@ const MEANINGS = {
     return areLetters(lists) && lists.length === (name.endsWith("mult") ? 2 : 1) ? reading(name, between(lists)) : null;
   },
   schubertProduct: (lists) => (lists.length <= 2 ? MEANINGS.permuted(lists.length === 1 ? "schubert" : "schubmult", lists) : areLetters(lists) ? tooMuch("Two Schubert polynomials are multiplied at a time here.") : null),
+  // (as many letters as it has, or more)
+  schubertIn: (w, count) => (Number(count) >= w.length - 1 ? w : null),
   stanleyOrInverse: (w) => (isPermutation(w) ? eitherOf(stanleyOf(w), stanleyOf(inverseOf(w))) : null),
   nextLetter: (last, number) => (Number(number) === Number(last) + 1 ? number : null),
+  rskTwice: (a, b) => (a.join() === b.join() ? reading("rsk", a) : null),
+  // (a list without an operation)
+  bareList: (list) => eitherOf(isPartition(list) && reading("coprod", list), isPartition(list) && standardOf(list), ...["rsk", "schubert", "growth"].map((it) => areLetters([list]) && reading(it, list)), areLetters([list]) && stanleyOf(list)),
   rsk: (word) => (word.every((it) => Number(it) >= 1) ? reading("rsk", word) : null),
   // the Grassmannian and fusion
   grassmannian: (k, n) => boxOf(k, n - k),
@@ -290,12 +322,17 @@ const MEANINGS = {
   // (a line meets a line in one condition in three dimensions, and in no other number)
   lines: (count, dimension) => MEANINGS.planes("2", dimension === "3" && 4, count, "2"),
   planes: (k, n, count, other) => (n - k === Number(other) && k * other === Number(count) && boxOf(k, n - k) ? MEANINGS.degree(boxOf(k, n - k)) : null),
-  // (labels of Dynkin are k-1 numbers with a sum of at most the level)
+  // (labels of Dynkin are k-1 numbers with a sum of at most the level, or k with that sum; of su(2) a number can be a dimension)
   fusionFor: (given, rows, level) => {
-    const it = Array.isArray(given) ? { lists: given } : given, isLabel = (list) => list.how !== "index" && list.length === rows - 1 && sumOf(list) <= Number(level);
-    const isLabels = it && rows > 2 && it.lists.every(isLabel), partitions = isLabels && it.lists.map((list) => list.map((_, i) => String(sumOf(list.slice(i)))));
-    return eitherOf(fusionOf(it, rows, level), partitions && fusionOf({ ...it, lists: partitions }, rows, level));
+    const it = Array.isArray(given) ? { lists: given } : given, most = Number(level), isOpen = it && it.lists.every((list) => list.how !== "index");
+    const from = (is, part) => isOpen && it.lists.every(is) && fusionOf({ ...it, lists: it.lists.map(part) }, rows, level);
+    const ofLabels = (list) => list.map((_, i) => String(sumOf(list.slice(i)))), isOf = (size) => (list) => list.length === size - 1 && sumOf(list) <= most;
+    const isAffine = (list) => list.length === Number(rows) && sumOf(list) === most, isDimension = (list) => list.length === 1 && list[0] >= 1 && list[0] <= most + 1;
+    const affine = from(isAffine, (list) => ofLabels(list.slice(1))), dimensions = rows === "2" && from(isDimension, ([number]) => [String(number - 1)]);
+    return eitherOf(it && fusionOf(it, rows, level), rows !== "2" && from(isOf(rows), ofLabels), affine, dimensions);
   },
+  inducedTo: (lists, letters) => (sizeOfAll(lists) === Number(letters) ? productOf(lists) : null),
+  inducedByOne: (letters, upTo, list) => (sumOf(list) === Number(letters) && Number(upTo) === sumOf(list) + 1 ? productOf([list, ["1"]]) : null),
   induced: (groups, letters, lists) => (isInducedTo(groups, letters) && groups.join() === lists.map((it) => String(sumOf(it))).join() ? productOf(lists) : null),
   permutationModule: (groups, letters, one) => (isInducedTo(groups, letters) && one === "1" ? reading("expand s", atomText("h", descending(groups))) : null),
   restricted: (letters, list) => (sumOf(list) === Number(letters) + 1 ? skewOf("skew", [list, ["1"]]) : null),

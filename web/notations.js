@@ -19,19 +19,21 @@ const NOTATIONS = String.raw`
 ∖ == ⧵ \ \setminus \backslash
 < == ⟨ 〈 \langle
 > == ⟩ 〉 \rangle
-∪ == \cup
+∪ == \cup ⌣ \smile
 ⊗ == \otimes
+⊠ == \boxtimes
 ⊕ == \oplus
 □ == \square \Box
-⊥ == \perp
-schubert == schub
+⊥ == \perp perp
+schubert == schub Sch
 GL == gl
-∘ == \circ
+S == 𝕊
+∘ == \circ circ
 ∅ == \emptyset \varnothing
 ' == \prime
 : == \colon
 T == \top
-to == → -> \rightarrow \mapsto
+to == → -> => \rightarrow \mapsto via
 in == ∈
 hash == #
 𝔖 == frakS calS scrS
@@ -54,10 +56,13 @@ polynomials == polynomial
 frac == tfrac dfrac
 widehat == hat
 qcoh == qh
+QH == qH
+rsk == RS
 2 == two
 3 == three third
 4 == four fourth
 5 == five fifth
+6 == six
 blank == \quad \qquad $
 nothing == the please 's me \left \right \big \Big \bigl \bigr \displaystyle \limits
 Family "m, e, h, p or s" := m e h p s
@@ -70,6 +75,8 @@ Dot "a times sign" ~= * ∗ ⊗ ∪ ∩
 Ast "a times sign" ~= * ∗
 Over ~= / ∖
 Greek ~= λ μ ν α β ρ
+O_ ~= ∘ o
+Cup ~= ∪
 
 # ---------------------------------------------------------------- numbers and lists
 Part "a number" = NUM -> part  # 12: one number, since commas or blanks part it from others
@@ -115,23 +122,26 @@ Lam "a partition" = List -> 1
   | List ~^ ~Prime -> conjugate
   | conjugate|transpose of? Lam -> conjugate
   | partition ( Square ) -> 3  # Sage
-Sub = Inside -> 1
-  | Round -> 1
+Sub = Below -> 1
   | Square -> 1
+Below = Inside -> 1
+  | Round -> 1
   | Empty -> 1
   | Inside Prime -> conjugate
   | Round Prime -> conjugate
   | yng ( Inside ) -> 3
   | ydiagram { Inside } -> 3
   | □ -> ones "1"
-Tight = NUM ~, ~NUM -> join  # s_2,1: an index without braces
+Tight = NUM -> part  # an index without braces
   | Tight ~, ~NUM -> join
-Index "an index" = ~_ ~{ Sub } -> 3  # s_{2,1}
+Index "an index" = ~_ ~{ Below } -> 3  # s_{2,1}
+  | ~_ ~{ Square } -> ? 3  # s_{[2,1]}: or a character of O(n)
   | ~_ ~NUM -> digits  # s_21
   | ~_ ~Round -> 2
   | ~_ ~Square -> 2
   | ~_ ~Empty -> 2
-  | ~_ ~Tight -> ? 2  # (a comma with two readings)
+  | ~_ ~NUM ~, ~Tight -> ? join  # s_2,1 (a comma with two readings)
+  | ~. ~Square -> 2  # s.[2,1], Magma
   | ~Square -> 1  # s[2,1]
   | ~[ ~] -> list
   | ~∅ -> list
@@ -165,6 +175,7 @@ Arg "a partition" = Lam -> 1  # in a phrase
   | Blanks -> 1
   | partition Arg -> 2
   | schur functions Arg -> 3
+  | Greek = Lam -> 3  # λ=(2,1)
 By = and|with|by -> ""
 Both "two partitions" = Arg By Arg -> list
   | Arg , and? Arg -> list
@@ -175,12 +186,39 @@ Atom "a symmetric function" = Family Index -> atom
   | ch ~( S Above ) -> atom s 4  # of a Specht module
   | frobenius characteristic of? S Above -> atom s 5
   | symmetricfunctions ( Ring ) . Family ( ) Index -> atom
+  | Family Index InX -> atom  # h_2[X]
+InX = ~[ ~X ~] -> ""
 Ring = QQ|ZZ -> ""
-Base = Atom -> 1
-  | ( Sum ) -> paren
-Power = Base -> 1
+Named = monomial Functions? -> word m  # the power sum p_3
+  | elementary Functions? -> word e
+  | complete? homogeneous Functions? -> word h
+  | power -? sum Functions? -> word p
+  | schur Functions? -> word s
+Functions = symmetric? functions|polynomials -> ""
+Power = Atom -> 1
+  | Named Atom -> named
+  | Paren -> 1
+  | Det -> 1
   | SM IndexPower -> atom  # s_1^3 (and no further exponent)
-  | Base Exp -> powerOf
+  | Atom Exp -> powerOf
+  | Paren Exp -> powerOf
+Paren = ( Sum ) -> paren
+Det = det|determinant of? Matrix -> determinant  # of Jacobi and Trudi
+  | vmatrix Matrix_ vmatrix -> determinant
+Matrix = [ DRows ] -> 2
+  | { DRows } -> 2
+  | ( Matrix ) -> 2
+  | [ { DRows } ] -> 3
+  | ( Matrix_ ) -> 2
+  | pmatrix Matrix_ pmatrix -> 2
+Matrix_ = DRow -> list
+  | Matrix_ ;|\\ DRow -> add
+DRows = DList -> list
+  | DRows ,? DList -> add
+DList = [ DRow ] -> 2
+  | { DRow } -> 2
+DRow = Sum -> list
+  | DRow ,|& Sum -> add
 Number = NUM -> scalar
 Scalar = Number -> 1
   | Number Exp -> powerOf
@@ -197,6 +235,7 @@ Sum "an expression" = Term -> 1
   | - Term -> minus
   | Sum Sign Term -> plus
 Basis "a basis" = Family -> 1
+  | Family ~_ i -> 1
   | Family ~_ Greek -> 1  # m_λ
   | Family ~_ ~{ Greek } -> 1
   | monomial|monomials -> word m
@@ -210,6 +249,8 @@ Basis "a basis" = Family -> 1
   | Basis - basis -> 1  # s-basis
   | Basis symmetric functions|polynomials -> 1
 In = To -> ""
+  | = ?? To -> ""  # = ? in h
+  | expanded|written|expressed To -> ""
   | in basis -> ""
   | in terms of -> ""
   | as a? sum|combination of -> ""
@@ -218,14 +259,16 @@ In = To -> ""
   | = Σ ?? -> ""  # h_{22} = Σ m_λ
   | = ? -> ""
   | = Σ χ ~^ Greek ~( Inside ) -> ""
-Convert = expand|write|express|convert|rewrite -> ""
+Convert = expand|write|express|convert|rewrite|transform|change -> ""
+  | change of? basis of|for? -> ""
 Plethysm "a plethysm" = Power ~[ Sum ] -> composed  # h_2[h_3]
-  | Power ∘ Power -> composed
+  | Power O_ Power -> composed
+  | plethysm OfLam O_ OfLam -> composed
   | Power composed with Power -> composed
   | Power ( Sum ) -> composed  # h_2(h_3): or a product
   | Power . plethysm ( Sum ) -> composed  # Sage
-  | plethysm of Power By Power -> composed
-  | plethysm Power of Power -> composed
+  | plethysm of? Power By Power -> composed
+  | plethysm ~:? Power of Power -> composed
   | plethysm of|:? Plethysm -> 3
 Omega = ω Family Index -> omega  # ω s_{3,1} is s_{2,1,1} (what follows could be under it, too)
   | ω ( Family Index ) -> omega
@@ -235,31 +278,51 @@ Question = Omega -> bare
   | Convert? Omega In Basis -> expand 4 2
   | Sum -> bare
   | Convert? Sum In Basis -> expand 4 2  # e_3 in h
+  | Convert? product of? And In Basis -> expand 6 4
+  | Convert? product of? Term In Basis -> expand 6 4
   | Plethysm -> plethysmBare
   | Convert? Plethysm In Basis -> plethysm 4 2
   | Family ~( Sum ) -> sageExpand  # s(h[2,1]), Sage
   | Family ~( Plethysm ) -> plethysm
   | Convert Sum -> ! bare  # expand s2: in which basis?
   | expand Family ~( Sum ) -> ! sageExpand
-  | Basis expansion of? Sum -> expand  # Schur expansion of p_3
-  | Basis expansion of? Plethysm -> plethysm
+  | Basis expansion|decomposition of? Sum -> expand  # Schur expansion of p_3
+  | Basis expansion|decomposition of? Plethysm -> plethysm
   | expansion of? Sum In Basis -> expand 5 3
   | expansion of? Plethysm In Basis -> plethysm 5 3
   | Convert? Skewed In Basis -> skewIn
   | Convert? Skewed -> skew
   | JacobiTrudi OfArg -> expand h
+  | dual JacobiTrudi OfArg -> expand e
   | JacobiTrudi σ OfIndex -> expand h
-  | tos ( Sum ) -> expand s  # Stembridge's SF, and Macaulay2
-  | toe ( Sum ) -> expand e
-  | toh ( Sum ) -> expand h
-  | top ( Sum ) -> expand p
-  | tom ( Sum ) -> expand m
-JacobiTrudi = giambelli|jacobi -? trudi? formula|determinant? of|for? -> ""
+  | ToBasis ( Sum ) -> expand 1 3
+  | ToBasis ␣Atom -> expand
+  | ToBasis ( Composed ) -> plethysm 1 3
+  | Composed In Basis -> plethysm 3 1
+  | Family ~( Composed ) -> plethysm
+  | symmetrica? .? t ~_ InSymmetrica ~_ InSymmetrica ( List ) -> convert 5 7 9
+  | Convert? FromFamily In Basis -> expand 4 2
+  | scalar ( Sum , Sum ) -> inner
+ToBasis = tos -> word s  # Stembridge's SF, and Macaulay2
+  | toe -> word e
+  | toh -> word h
+  | top -> word p
+  | tom -> word m
+FromFamily = Atom from Family -> named 3 1
+Composed = plethysm ( Arguments ) -> 3
+InSymmetrica = schur -> word s
+  | powsym -> word p
+  | homsym -> word h
+  | elmsym -> word e
+  | monomial -> word m
+JacobiTrudi = giambelli|jacobi -? trudi? formula|determinant|expansion|identity? of|for|:? -> ""
 SProduct = S Index -> list
   | SProduct Dot? S Index -> add 1 4
   | S Index Exp -> listPower
 InVariables = in NUM variables|vars|variable -> 2
-SPair = S Index and S Index -> list 2 5
+  | with|in at most NUM rows|parts -> 4
+  | restricted|truncated to NUM rows|variables -> 3
+SPair = S Index By S Index -> list 2 5
 Several = Power , Power -> timesText
   | Several , Power -> timesText
 And = Power By Power -> timesText
@@ -270,19 +333,32 @@ OfArg = Arg -> atom s
 SVar = SAtom ~( Letters ) -> inLetters  # s_{2,1}(x_1,x_2)
   | Functor Cn -> inLetters  # Sym^4(C^2)
 SVars = SVar -> list
+  | SVar Exp -> listPower
   | SVars *|⊗? SVar -> add
 Product = product of? Both -> 3
+  | symmetrica . mult_schur_schur|outerproduct_schur ( Lams ) -> 5
   | multiply Both -> 2
-  | littlewood - richardson product|rule of? for? Both -> 6
+  | littlewood - richardson product|rule of? for? Both -> 7
   | LR|lr product|rule of? for? Both -> 5
+  | product of? NUM? schur functions :? Both -> 7
+SchurProduct = schur functions? product of|:? -> ""
+  | outer product of|:? -> ""
 Question = Sum InVariables -> inVariables
+  | SchurProduct Sum -> bare
+  | SchurProduct ListProduct -> listProduct
+  | SchurProduct Both -> product
+  | Sum ForGl -> ! inVariables
+  | CompactProduct -> ? product  # 21*21: or a product of numbers
   | SProduct -> ? multOfS  # S_{3,2}*S_{2,1}: of Schur, or of Schubert
   | product of? SPair -> ? multOfS
+  | multiply SPair -> ? multOfS
   | SVars -> multInLetters
   | product of? And -> bare 3
   | multiply And -> bare 2
   | Product -> product
   | Product InVariables -> product
+CompactProduct = Compact * Compact -> list
+  | CompactProduct * Compact -> add
 # skew shapes, coefficients, numbers
 Inner = Lam -> 1
   | Commas -> 1
@@ -295,45 +371,61 @@ Slash = ~_ ~{ Shapes } -> 3  # s_{321/21}
   | ~_ ~( Shapes ) -> 3
   | ~[ Shapes ] -> 2
   | ~( Shapes ) -> 2  # s(32/1)
+Perp = ~^ ~⊥ -> ""
+  | ~^ ~{ ⊥ } -> ""
 Slashed = s Slash -> 2
   | s Round Over Round -> list 2 4  # s(3,2)/(1)
   | s Round Over Empty -> list 2 4
   | s Empty Over Empty -> list 2 4
   | s Index Over s Index -> list 2 5  # s_λ/s_μ
   | s Index Over ~_ ~{ Sub } -> list 2 6  # s₃₂/₁
-  | s Index ~^ ~⊥ s Index -> list 6 2
-  | s Index ~^ ~{ ⊥ } s Index -> list 8 2
+  | s Index Perp s Index -> list 5 2
+  | s Index Perp ( s Index ) -> list 6 2
   | s Index . skew_by ( s Index ) -> list 2 7  # Sage
   | s ~( skewpartition ( [ Lams ] ) ) -> 6
   | s . skew_schur ( Lams ) -> 5
+  | skew ( s Index , s Index ) -> inOrder 4 7  # Maple: the second by the first
+  | symmetrica . part_part_skewschur ( Lams ) -> 5
   | S ~^ ~{ Shapes } -> 4  # a skew Specht module
-SkewName = skew schur? functions? of? for? -> ""
+SkewName = skew schur? functions|polynomials? of? for? -> ""
+  | skew specht module|modules? of? -> ""
 Skewed = Slashed -> 1
   | SkewName Slashed -> 2
   | SkewName shape? Both -> 3
   | SkewName shape? Skew -> 3
-Question = Slashed InVariables -> skew
-  | Slashed ~( Letters ) -> skew
+Question = Convert? Skewed InVariables -> skew
+  | Convert? Slashed ~( Letters ) -> skew
+  | ribbon schur? functions? R|r Index -> ribbon 5
+  | < s Index , Slashed > -> tabContent 5 3
+  | < Slashed , s Index > -> tabContent 2 5
   | Inner Over Inner -> shapeOnly 1 3  # 321/21
   | Coproduct EqualsSum? -> coproduct
+LikeSchur = Atom -> likeSchur  # s_λ, h_n and e_n
 Coproduct = Δ of Arg -> 3
-  | Δ s Index -> 3
-  | Δ ( s Index ) -> 4
-  | s Index . coproduct ( ) -> 2
-  | coproduct of|:? Arg -> 3
+  | Δ of? LikeSchur -> 3
+  | LikeSchur . coproduct ( ) -> 1
+  | coproduct|comultiplication of|:? Arg -> 3
+  | coproduct|comultiplication of|:? LikeSchur -> 3
+  | Δ|coproduct ( LikeSchur ) -> 3
   | s Index ~( x , y ) ProductsOf -> 2
-  | s Index ~( x , y ) -> ? 2  # or the polynomial in two variables
+  | s Index ~( x|X ,|; y|Y ) -> ? 2  # or the polynomial in two variables
+  | LikeSchur ~[ X|A + Y|B ] -> 1
+  | LikeSchur ~[ x + y ] -> ? 1  # or in two variables
   | Sch Index ~( V ⊕ W ) -> 2
   | Sch ~^ ~{ Sub } ~( V ⊕ W ) -> 4
 EqualsSum = = Σ s ~_ ~{ Greek / Greek } ⊗ s ~_ Greek -> ""
 ProductsOf = , in products s ~_ ~{ μ } ( x ) s ~_ ~{ ν } ( y ) -> ""
   | , in products s μ ( x ) s ν ( y ) -> ""
 Cell = Compact -> 1
+  | Greek = List -> 3
   | Round -> 1
   | Square -> 1
   | { Inside } -> 2
   | ∅ -> list
+Spaced = Compact -> 1
+  | Blanks -> 1
 Cells = Cell , Cell -> list  # 21,21
+  | Spaced , Spaced -> list  # 2^2,2 1^2
   | Cell ␣Cell -> list
   | Bracketed ~Bracketed -> list
 Inners = Inner ; Inner -> list
@@ -343,22 +435,41 @@ Pair "two partitions" = Cells -> 1
 Bracketed = Round -> 1
   | Square -> 1
 Down2 = ~_ ~{ Pair } -> 3
+Monomial = XPower -> 1
+  | Monomial *? XPower -> join
+XPower = XLetter -> part
+  | XLetter ~^ ~NUM -> part
+  | XLetter ~^ ~{ NUM } -> part
+  | XLetter ~sup -> part
+OfMonomial = Monomial -> monomial
 CoefName = LR coefficient|number -> ""
   | littlewood - richardson coefficient|number -> ""
 Coefficient = c Above Down2 -> coef
   | c Down2 Above -> coef 3 2
-  | c ~( Cell ; Cells ) -> coef
-  | c ~( Inner ; Inners ) -> coefWithPair
-  | c ~( Cells ; Cell ) -> coefWithPair 5 3
+  | c|LR ~( Cell ; Cells ) -> coef 3 5
+  | c|LR ~( Inner ; Inners ) -> coefWithPair 3 5
+  | c|LR ~( Cells ; Cell ) -> coefWithPair 5 3
+  | c ~( Cell , Cells ) -> coefWithPair
 Question = CoefName? for? of? Coefficient -> 4
   | CoefName for? of? Cell ,|;|: Pair -> coefWithPair
   | lrcoefficient [ Lam , Lams ] -> coefWithPair
   | c Down2 AllNu? -> ? product 2  # no outer partition: all of them
-  | c Down2 ~^ Greek AllNu? -> product 2
+  | c Down2 AllAbove AllNu? -> product 2
+  | c AllAbove Down2 AllNu? -> product 3
+  | SkewOfC -> skew
+  | c Above Down2 -> ? ofSchubert  # c^{231}_{132,213}
+  | c Down2 Above -> ? ofSchubert 3 2
+SkewOfC = c Above ~_ ~{ Cell ,? Greek } -> list 2 5
 AllNu = for all Greek -> ""
-CoefOf = coefficient|multiplicity|mult of? -> ""
+AllAbove = ~^ Greek -> ""
+  | ~^ ~{ Greek } -> ""
+CoefOf = plethysm? coefficient|multiplicity|mult of? -> ""
   | CoefName of? for? -> ""
 Question = CoefOf Atom in Term -> coefficientIn
+  | CoefOf OfMonomial in Term -> coefficientIn
+  | CoefOf Atom in product of? And -> coefficientIn 2 6
+  | CoefOf Atom in product of? Term -> coefficientIn 2 6
+  | how many|often times? does Atom occur|appear in Term -> coefficientIn 5 8
   | CoefOf Atom in Plethysm -> coefficientInPlethysm
   | [ Atom ] Sum -> coefficientIn  # [s_λ] s_μ s_ν
   | CoefOf Arg in Both -> coef
@@ -366,32 +477,37 @@ Question = CoefOf Atom in Term -> coefficientIn
   | CoefOf S Above in Specht -> coef
   | CoefOf S Above in ind ( Specht ) -> coef
   | mult|multiplicity of? weight Arg in V Index -> kostkaOf 7 4
+  | weight multiplicity of? Arg in V Index -> kostkaOf 4 7
   | weight multiplicities of? V OfIndex -> expand m
   | weight multiplicities of? V OfIndex ForGl -> ! expand m 5
 Kostka = K|kostka ~( Pair ) -> kostka
+  | K ~_ ~{ Greek ,? Cell } -> allKostka h
+  | K ~_ ~{ Cell ,? Greek } -> allKostka m
   | K|kostka ~( Inner ; Inner ) -> kostkaOf  # K(3,1; 2,2)
   | K Down2 -> kostka  # K_{31,1111}
   | K ~_ ~{ Shapes ,? Cell } -> kostkaSkew 4 6
-KostkaName = kostka number|coefficient? of? for? -> ""
+KostkaName = kostka number|numbers|coefficient? of? for? -> ""
 Question = Kostka -> 1
   | KostkaName Kostka -> 2
   | Symmetrica? kostka_number ( Lams ) -> kostka  # Sage
   | kostkanumber [ Lams ] -> kostka
   | KostkaName Pair -> kostka
+  | KostkaName OfShape? Arg OfContent Arg -> kostkaOf
   | KostkaName Arg and Arg -> kostkaOf
   | kostka Blanks -> ! kostkaAll  # kostka 3 1 1 1 1 1: where the sizes fit
-  | kostka numbers of? for? OfArg -> expand m
+  | all? kostka numbers of? for? OfArg -> expand m
 Count = number of all? -> ""
   | how many -> ""
-  | hash -> ""
+  | hash|count -> ""
 Symmetrica = symmetrica . -> ""
 Cardinality = . cardinality ( ) -> ""
 Semistandard = ssyt|ssyts -> ""
   | semistandard|column -? strict? young? tableaux -> ""
 Standard = syt|syts -> ""
   | standard young? tableaux -> ""
-OfShape = of -> ""
-  | of? shape -> ""
+OfShape = of|for -> ""
+  | of|have|with|having? skew? shape -> ""
+  | of? skew? shape? Greek / Greek = -> ""
 OfContent = ,|and|with? content|weight|type -> ""
 Question = Count Semistandard OfShape? Arg OfContent Arg -> kostkaOf 4 6
   | Count Semistandard OfShape? Skew OfContent Arg -> kostkaSkew 4 6
@@ -399,6 +515,9 @@ Question = Count Semistandard OfShape? Arg OfContent Arg -> kostkaOf 4 6
   | Count tableaux OfShape? Arg -> ? standardOf 4  # standard, or semistandard
   | standardtableaux ( Square ) Cardinality -> standardOf
   | semistandardtableaux ( Square , Square ) Cardinality -> kostkaOf
+  | semistandardtableaux ( shape = Square , eval = Square ) Cardinality -> kostkaOf
+  | len ( standardtableaux ( Square ) ) -> standardOf
+  | partition ( Square ) . dimension ( ) -> standardOf
   | Count Standard OfShape? Skew -> standardSkew 4
   | Count syt ( Arg ) -> standardOf 4
   | numberoftableaux [ Lam ] -> standardOf  # Mathematica
@@ -411,39 +530,50 @@ Question = Count Semistandard OfShape? Arg OfContent Arg -> kostkaOf 4 6
 Question = f Upper -> standardOf  # f^{(3,2,1)}
   | f ~^ ~Digits -> ? standardOf  # f^2: or a square
   | f ~^ ~{ Shapes } -> standardSkew 4
-  | hook length formula? of|for|: dimension? of? Arg -> standardOf 7
+  | f Lower -> ? standardOf
+  | hook -? length formula? of|for|:? dimension? of? Arg -> standardOf 8
   | dimension of? specht module? Arg -> standardOf 5
+  | dimension of? specht module? S Upper -> standardOf 6
   | dimension of? S Upper -> orSize
   | dimension of? S ~^ ~Digits -> ? standardOf
   | dimension of? irrep|representation|module|irreducible specht|representation|module? Arg -> ? standardOf 5  # of which group?
-  | dimension of? Irreducible? labelled? by? OfSize -> standardOf
+  | dimension of? Irreducible? Labelled? OfSize -> standardOf
   | dimension of? Arg -> ? standardOf 3
+Labelled = labelled|labeled|indexed by? -> ""
 Irreducible = irrep|representation|module -> ""
   | irreducible|specht representation|module? -> ""
-OfS = of|for symmetric? group? S ~_ ~NUM -> 6
-  | of|for symmetric? group? S ~_ ~{ NUM } -> 7
+OfS = of|for symmetric? group? Sn -> 4
 OfSize = Arg OfS -> ofSize 2 1
-  | OfS of|for|labelled? by? Arg -> ofSize
-Character = character of? -> ""
+  | Sn -? representation|module|irrep Labelled? Arg -> ofSize 1 5
+  | OfS of|for? Arg -> ofSize
+  | OfS Labelled Arg -> ofSize
+Character = irreducible? character of? -> ""
   | value of character of? -> ""
   | character value of? -> ""
   | value of -> ""
 Module_ = Arg -> 1
+  | Irreducible Labelled? Arg -> 3
   | for Arg -> 2
   | OfSize -> 1
-AtClass = at|on|for cycle|conjugacy? type|class? -> ""
+AtClass = evaluated? at|on|for cycle|conjugacy? type|class? of? cycle? type? -> ""
 Cycle = NUM - cycle -> 1
   | transposition -> word "2"
   | identity -> word "1"
+AboveOfS = Above OfS -> ofSize 2 1
 Question = χ Above ~( Inside ) -> characterOf  # χ^{31}(22)
   | χ Above ~( Round ) -> characterOf
   | χ Above Lower -> characterOf
   | χ Lower Above -> characterOf 3 2
+  | χ Lower ~( Inside ) -> characterOf
+  | χ Lower ~( Round ) -> characterOf
+  | χ ~( Inner ; Inner ) -> characterOf
   | χ Above -> ? characterOnly
   | χ ( Lam , Lam ) -> characterOf  # Maple
   | χ Square Square -> characterOf
+  | χ Round Round -> characterOf
   | Symmetrica? charvalue ( Lam , Lam ) -> characterOf
   | Character? χ Above AtClass Arg -> characterOf 3 5
+  | Character? χ AboveOfS AtClass Arg -> characterOf 3 5
   | Character? χ Above AtClass Cycle -> characterAtCycle 3 5
   | Character Module_ AtClass Arg -> characterOf
   | Character Module_ AtClass Cycle -> characterAtCycle
@@ -467,8 +597,13 @@ Perm "a permutation" = ~_ ~{ PSub } -> 3
   | ~( Square ) -> 2
   | ~[ { Inside } ] -> 3
   | ~NUM -> digits
-  | ~Tight -> ? 1  # S10,1,2,..
-SPoly "a Schubert polynomial" = Sch Perm -> 2
+  | ~NUM ~, ~Tight -> ? join  # S10,1,2,..
+SPoly "a Schubert polynomial" = Sch|schubert Perm -> 2
+  | symmetrica? .? t_schubert_polynom ( SPoly ) -> 5
+  | 𝔖 Perm ~( x ) -> 2
+  | 𝔖 Perm ~( Letters ) -> schubertIn
+  | S Perm ~( x ) -> ? 2  # or a Schur polynomial
+  | S Perm ~( Letters ) -> ? schubertIn
   | schubertpolynomialring ( Ring ) ( Square ) -> 6
   | SPoly . expand ( ) -> 1
   | { Sch } Perm -> 4  # {\mathfrak S}_w
@@ -482,29 +617,63 @@ SPolys = SPoly -> list
 DPolys = DPoly -> list
   | DPolys Dot? DPoly -> add
   | DPoly Exp -> listPower
+Flags = Fl ( NUM ) -> ""
+  | Fl ~_ ~NUM -> ""
+  | Fl ~_ ~{ NUM } -> ""
+InFlags = in? cohomology? of? Flags -> ""
+  | in? H Star ~( Flags ) -> ""
+  | in? H ~_ T ~^ ~Ast ~( Flags ) -> ""
+FlagClass = σ Perm -> 2
+  | [ X Perm ] -> 3
+Monk = monk rule|formula? of|for|:? -> ""
+  | schubert structure constants|coefficients of|for|:? -> ""
+  | schubert polynomials? product|multiplication of|for|:? -> ""
 OfW = w = -> ""
+  | F ~_ w for|with w = -> ""
   | permutation -> ""
+InSchubert = In schubert polynomials|basis|classes -> ""
 Question = SPolys -> schubertProduct
+  | Convert? SPolys InSchubert -> schubertProduct 2
+  | Monk SPolys -> schubertProduct
+  | Monk WOther -> permuted schubmult
+  | InFlags :|, SPolys -> ? schubertProduct
+  | FlagClass Dot? FlagClass InFlags -> ? permuted schubmult
+  | product of? schubert classes FlagClass By FlagClass InFlags -> ? permuted schubmult
+  | multiply SPolys By SPoly -> permuted schubmult 2 4
+  | multiply schubert polynomials of? for? WOther -> permuted schubmult
+  | double schubert polynomials|product DPolys -> permuted dschubmult
+  | product of? double schubert polynomials of? for? WOther -> permuted dschubmult
+  | equivariant product of? schubert? classes? WOther InFlags? -> ? permuted dschubmult 6
+  | symmetrica . mult_schubert_schubert WOther -> permuted schubmult
   | S Index -> ? schurOfS  # S_{321}: of Schubert, or of Schur
-  | SPolys in cohomology? of? Fl ( NUM ) -> ? schubertProduct 1
-  | SPolys in H Star ~( Fl ( NUM ) ) -> ? schubertProduct 1
+  | S Index ~( x ) -> ? schurOfS
+  | SPolys InFlags -> ? schubertProduct
   | DPolys -> permuted dschubmult
   | product of? schubert? polynomials? SPolys By SPoly -> permuted schubmult 5 7
-  | schubert product of? WOther -> permuted schubmult
   | schubmult_py WOther -> permuted schubmult
   | lrcalc . mult_schubert WOther -> permuted schubmult
   | product of? schubert polynomials of? for? WOther -> permuted schubmult
   | schubert polynomials of? for? OfW? WPerm -> permuted schubert 6
   | F Perm -> ? stanleyOrInverse  # F_{321}: of Stanley, or fundamental
   | F Perm InVariables -> ? stanleyOf
+  | Convert? F Perm InSchur -> ? stanleyOrInverse
+  | Convert Stanley F Perm InSchur? -> stanleyOf 4
+  | Convert Stanley of? for? OfW? WPerm InSchur? -> stanleyOf 6
+  | Stanley F Perm InSchur -> stanleyOf
+  | edelman - greene coefficients|numbers|expansion of? for? OfW? WPerm -> stanleyOf 8
   | permutation ( Square ) . stanley_symmetric_function ( ) -> ? stanleyOrInverse
   | F Perm ~( Letters ) -> ? stanleyOf
   | Stanley F Perm -> stanleyOf
   | Stanley F Perm InVariables -> stanleyOf
   | Stanley of? for? OfW? WPerm -> stanleyOf 5
   | Stanley of? for? OfW? WPerm InVariables -> stanleyOf 5 6
-Letters = x ~_ ~NUM -> nextLetter "0"
-  | Letters , x ~_ ~NUM -> nextLetter
+InSchur = In s -> ""
+  | In schur functions|polynomials|basis? -> ""
+Letters = XLetter -> nextLetter "0"
+  | Letters , XLetter -> nextLetter
+  | Letters , . . . , XLetter -> 7
+XLetter = x ~_ ~NUM -> 3
+  | x ~NUM -> 2
 Stanley = stanley symmetric? functions? -> ""
   | stable schubert polynomials -> ""
 # ---------------------------------------------------------------- the Grassmannian
@@ -523,11 +692,14 @@ Star = ~Ast -> ""
   | ~^ ~{ ~Ast ~} -> ""
   | ~^ ~{ NUM } -> ""
 InField = , Z|ℤ|Q|ℚ|C|ℂ -> ""
+KAndN = NUM , NUM -> grassmannian
+Small = small? quantum cohomology ring? -> ""
 Space "Gr(k,n)" = GrOf -> 1
   | H|A Star ~( GrOf InField? ) -> 4
   | cohomology|chow ring? of GrOf -> 4
   | QH Star? ~( GrOf InField? ) -> space quantum 4
-  | quantum cohomology ring? of GrOf -> space quantum
+  | Small of? GrOf -> space quantum
+  | QH ( KAndN ) -> ? space quantum
   | qcoh of? GrOf -> space quantum
 Where = Space -> 1
   | in|of|for|on Space -> 2
@@ -541,28 +713,44 @@ Class "a class" = σ Index -> 2
   | NUM -> ! digits  # 2*1 in QH*(Gr(2,4))
   | [ X Index ] -> 3
   | PointClass -> 1
+  | hyperplane class? -> ones "1"
+  | h|H|x -> ? ones "1"
+  | σ ~_ ~□ -> ones "1"
   | c ~_ ~NUM ~( Q ) -> list  # Chern classes of the quotient, and of the dual of the sub-bundle
   | c ~_ ~NUM ~( S ~^ ~Ast ) -> ones
 ClassPower = Class -> list
   | σ IndexPower -> list
   | Class Exp -> listPower
 Classes = ClassPower -> 1
-  | Classes *|⊗|∪|∩ ClassPower -> addAll
+  | Classes *|⊗|∩ ClassPower -> addAll
+  | Classes Cup ClassPower -> addCup  # that of H*, or the quantum product
   | Classes ∗ ClassPower -> addStarred  # the quantum product, or that of H*
   | Classes ClassPower -> addAll
 ClassPair = Classes By Classes -> addAll
-ProductOf = cup? product of? -> ""
+ProductOf = product of? -> ""
+  | intersection? product of? schubert classes -> ""
+  | intersection product of? -> ""
   | multiply -> ""
-Question = Classes ,|:? Where -> classesIn
-  | Where ,|:? Classes -> classesIn 3 1
-  | Where ,|:? ProductOf ClassPair -> classesIn 4 1
-  | ProductOf ClassPair ,? Where -> classesIn
+QName = small? quantum product|multiplication|multiply|pieri|monk rule? of|for? -> ""
+  | quantum schubert calculus -> ""
+  | quantum LrName coefficients|product|rule of|for? -> ""
+LrName = LR|lr -> ""
+  | littlewood - richardson -> ""
+ProductOfPair = ProductOf ClassPair -> 2
+  | cup ProductOf ClassPair -> cup
+  | cup ProductOf Classes -> cup
+Stop = ,|:|; -> ""
+Question = Classes Equals? Stop? Where -> classesIn
+  | Where Stop? Classes -> classesIn 3 1
+  | Where Stop? ProductOfPair -> classesIn 3 1
+  | ProductOfPair ,? Where -> classesIn
   | product of? Both Where -> classesIn
-  | quantum product of? Both QWhere -> classesIn
-  | quantum product of? ClassPair QWhere -> classesIn
-  | quantum product? ~: Classes QWhere -> classesIn
+  | QName Both QWhere -> classesIn
+  | QName ClassPair QWhere -> classesIn
+  | QName ~:? Classes QWhere -> classesIn
+  | quantum ~: Classes QWhere -> classesIn
   | Classes mod q ,? OWhere -> classesIn
-  | q - term of? Classes QWhere -> ? classesIn
+  | q - term|coefficient of? Classes QWhere -> ? classesIn
   | ∫ ~_ ~{ GrOf } Classes -> integral 6 4
   | ∫ ~_ ~GrOf Classes -> integral 4 3
   | Classes Where ,? coefficient of PointClass -> integral 1 2
@@ -571,11 +759,15 @@ Question = Classes ,|:? Where -> classesIn
   | intersection number of? Classes Where -> integral 4 5
   | GwName? < Class , Class , Class > ~_ ~{ d = NUM } Where -> invariant
   | GwName? < Class , Class , Class > ~_ ~NUM Where -> invariant
-  | degree of? GrOf -> degree
+  | degree of? GrOf Embedded? -> degree 3
+  | degree of? plücker embedding of GrOf -> degree
   | Count lines Meeting NUM general|given? lines in P ~^ ~NUM -> lines 4 10
+  | Count lines in P ~^ ~NUM Meeting NUM general|given? lines -> lines 8 6
   | Count lines in NUM - space Meeting NUM general|given? lines -> lines 8 4
   | Count NUM - planes in C ~^ ~NUM Meeting NUM general|given? NUM - planes nontrivially? -> planes 2 8 10 12
   | Classes in Gr|G ( k , n ) -> ! product 1
+Equals = = ?? -> ""
+Embedded = in|under plücker embedding -> ""
 GwName = gromov - witten invariant of? -> ""
 Meeting = meet|meeting|intersecting -> ""
 SProduct2 = σ Index -> list
@@ -587,6 +779,7 @@ ListFactor = Round -> list
   | { Inside } -> list
   | Round Exp -> listPower
 ListProduct = ListFactor * ListFactor -> addAll  # (2,1)*(2,1)
+  | { Inside } . { Inside } -> list  # SCHUR
   | ListProduct * ListFactor -> addAll
   | ListFactor ∗ ListFactor -> ? addAll  # or the internal product
   | ListProduct ∗ ListFactor -> ? addAll
@@ -601,6 +794,14 @@ Question = SProduct2 -> ! product  # σ_1^4: no Gr(k,n) is said
   | Juxtaposed -> ? product  # (3,1)(2): a product of s, or of cycles
 # ---------------------------------------------------------------- modules of GL_n and of S_n
 Indexed = s|V Index -> typedWith index
+  | S Index V_ -> typedWith index
+TensorOf = tensor product? decomposition? of? -> ""
+TensorPair = Indexed By Indexed -> list
+  | Lam By Lam -> list
+  | Lam *|⊗|,? Lam -> list
+IntoSum = into|in|as -> ""
+  | into|as sum of -> ""
+Irreducibles = IntoSum irreducible|irreducibles|irreps representations|components|constituents|modules|characters? -> ""
 Tensor = ListFactor ⊗ ListFactor -> addAll
   | Tensor ⊗ ListFactor -> addAll
   | Indexed ⊗ Indexed -> list
@@ -609,10 +810,15 @@ Degree = ~^ ~NUM -> 2
   | ~^ ~{ NUM } -> 3
   | ~sup -> 1
 Functor "a functor" = sym Degree -> functor h
+  | symmetric square of? -> functor h "2"
+  | exterior square of? -> functor e "2"
+  | symmetric cube of? -> functor h "3"
+  | exterior cube of? -> functor e "3"
   | Λ Degree -> functor e
   | S Above -> atom s 2
   | S Index -> atom s 2
 V_ = V -> ""
+  | C ~^ ~n -> ""
   | ( V ) -> ""
 Cn = C ~^ ~NUM -> 3
   | ( C ~^ ~NUM ) -> 4
@@ -626,30 +832,73 @@ Composite = Functor ( Functor V_ ) -> composed
   | Functor Functor V_ -> composed
   | Functor ( Modules ) -> composed
 CompositeIn = Functor ( Functor Cn ) -> composed 1 3
-GlOf = GL ~_ ~NUM -> 3
-  | GL ~_ ~{ NUM } -> 4
-  | GL ( NUM ) -> 3
+GlOf = GL|U ~_ ~NUM -> 3
+  | GL|U ~_ ~{ NUM } -> 4
+  | GL|U ( NUM ) -> 3
   | GL ~NUM -> 2
-ForGl = for|of|in|,? GlOf -> 2
-  | as a? GlOf - representation|module -> 3
-  | , dimension V = NUM -> 5
+  | GlOf ~( C ) -> 1
+  | GL ( NUM , C ) -> 3
+ForGl = for|of|in|over|,? GlOf -> 2
+  | as a? GlOf -? representations|representation|modules|module|characters -> 3
+  | ,|for|with|if|and dimension V = NUM -> 5
+ForV = for|of|over|under GL ( V ) -> ""
+  | as a? GL ( V ) -? representations|representation|module|modules -> ""
 Specht = S Above ⊗ S Above -> list 2 5
   | Specht ⊗ S Above -> add 1 4
-Young = S ~_ ~NUM * S ~_ ~NUM -> list
-  | Young * S ~_ ~NUM -> add
-UpTo = ~^ ~{ S ~_ ~NUM } -> 5
+Young = Sn * Sn -> list
+  | Young * Sn -> add
+Spechts = S Above *|⊠|⊗ S Above -> list 2 5
+  | S Above By S Above -> list 2 5
+Induce = induction product of? -> ""
+  | induce -> ""
+UpTo = ~^ ~{ Sn } -> 3
+Into = ForV -> ""
+  | Irreducibles ForV? -> ""
+  | in|into schur functions|functors -> ""
+Product_ = product of? -> ""
+  | TensorOf -> ""
+Littlewood = ListFactor ⊗ ListFactor -> littlewood
+FunctorOf = Functor of Functor -> composed
+ModulePair = Module By Module -> timesText
+Restrict = restriction|restrict|res of? specht? module? -> ""
+Sn = S ~_ ~NUM -> 3
+  | S ~_ ~{ NUM } -> 4
+Pair_ = young subgroup|subgroups -> ""
+  | young? subgroup|subgroups? SAny * SAny -> ""
+SAny = Sn -> ""
+  | S ~_ k -> ""
+  | S ~_ ~{ NUM - k } -> ""
+  | S ~_ ~{ n - k } -> ""
 Question = Tensor -> ! product  # of modules of GL
-  | product? of? Tensor ForGl -> product
-  | Modules -> inSchur
-  | Modules ForGl -> inVariables
-  | Composite -> plethysm s
-  | CompositeIn -> ! plethysm s
+  | Littlewood -> ! plethysm s  # {2}⊗{3}: h_3[h_2]
+  | Product_? Tensor Irreducibles? ForGl Irreducibles? -> product 2 4
+  | GlOf Stop? Product_? Tensor -> product 4 1
+  | TensorOf TensorPair ForGl -> product
+  | TensorOf TensorPair -> ! product
+  | GlOf Stop? TensorOf TensorPair -> product 4 1
+  | clebsch - gordan TensorOf? ForGl ~: TensorPair -> product 7 5
+  | Modules Into? -> inSchur 1
+  | Modules Irreducibles? ForGl -> inVariables 1 3
+  | TensorOf ModulePair ForGl -> inVariables
+  | Composite Into? -> plethysm s 1
+  | FunctorOf -> plethysm s
+  | CompositeIn Into? -> ! plethysm s 1
   | Specht -> ? product  # induced, or the Kronecker product
   | ind ~( Specht ) -> product
+  | ind ~( Spechts ) -> product
+  | Induce Spechts -> product
+  | Induce Spechts to Sn -> inducedTo
+  | Induce Spechts from Young to Sn -> induced 4 6 2
+  | ind ~_ ~{ Sn } UpTo S Above -> inducedByOne 4 6 8
+  | ind UpTo ~_ ~{ Sn } S Above -> inducedByOne 5 2 8
+  | Restrict S Above to|on Sn -> restricted 5 3
+  | Restrict S Above to|on Pair_ -> ? coproduct 3
   | ind ~_ ~{ Young } UpTo? Specht -> induced 4 6 7
+  | ind ~_ ~{ Young } UpTo? ( Specht ) -> induced 4 6 8
   | ind ~_ ~{ Young } UpTo? NUM -> permutationModule 4 6 7
-  | res ~_ ~{ S ~_ ~NUM } S Above -> restricted 6 9
+  | res UpTo? ~_ ~{ Sn } S Above -> restricted 5 8
   | res UpTo? ~_ ~{ Young } S Above -> ? coproduct 8
+  | res ~_ ~{ Sn } UpTo S Above -> restricted 4 8
   | Permutations -> ? expand s
   | Permutations ModulesOf -> expand s 1
 Permutations = M Above -> atom h
@@ -667,10 +916,13 @@ Level = at|, level NUM -> 3
   | , k = NUM -> 4
   | level NUM -> 2
   | ~_ ~NUM -> 2
-FusionOf = fusion product|rule|rules? of? -> ""
+TypedLists = Lam Lam -> list
+FusionOf = verlinde|fusion fusion? product|rule|rules|coefficients|algebra|formula|ring? of|for|:? -> ""
 Question = Fused for|of|in|,? Lie Level -> fusionFor
+  | level NUM Lie FusionOf? Fused -> fusionFor 5 3 2
   | FusionOf Fused for|of|in|,? Lie Level -> fusionFor
-  | Lie Level :? FusionOf? Fused -> fusionFor 5 1 2
+  | FusionOf? Lie Level Stop? FusionOf? Fused -> fusionFor 6 2 3
+  | FusionOf? Lie Level Stop? TypedLists -> fusionFor 5 2 3
 
 # ---------------------------------------------------------------- the arguments of a command
 Operand = Lam -> operand list
@@ -742,12 +994,15 @@ Rows "the number of variables" = -r NUM -> variables
   | , maxrows = NUM -> variables  # lrcalc in Python
 Command = mult Opt? Opt? Factors Opt? Opt? -> mult
   | mult ( Call Rows ) -> mult
+  | LrCall Factors -> mult
+  | LrCall [ Lams ] -> product
   | mult Factors ,|:? Where -> productIn
   | mult Where ,|:? Factors -> productIn 4 2
   | mult Skew -> ! skew  # mult (2,1)/(1)
   | mult Scaled -> ! expand s
   | mult SProduct -> ? multOfS  # S: of Schur or of Schubert
   | mult SPolys -> ? schubertProduct
+LrCall = lr_tensor|lrmult|lrrule|littlewoodrichardson|littlewoodrichardsonrule -> ""  # LiE and others
 OfLam = Lam -> atom s
 OfAny = Any -> schurOf
 OfOperand = Operand -> schurOf
@@ -794,6 +1049,9 @@ Command = quantum QWhere ,|:? Factors -> productIn 4 2
   | fusion NUM Factors -> ! fusionLeast 3 2
   | fusion Factors -> ! fusionLeast
 WPerm "a permutation" = Square -> 1
+  | permutation ( Square ) -> 3
+  | ( permutation ( Square ) ) -> 4
+  | ( { Inside } ) -> 3
   | { Inside } -> 2
   | Cycles -> 1
   | Compact -> 1
@@ -810,6 +1068,7 @@ Cycles = Round -> roundPermutation
 CycleList = Round Round -> list
   | CycleList Round -> add
 WOther "two permutations" = ( Square , Square ) -> list
+  | ( Compact , Compact ) -> list
   | ( Round , Round ) -> roundPair
   | WPerm ␣- ␣WPerm -> list
   | WPerm * WPerm -> list
@@ -826,11 +1085,15 @@ Command = schubert WPerm -> permuted schubert
   | stanley WPerm -> ! stanleyOf
   | rsk Word -> rsk
 Word "a word" = WPerm -> 1
+  | w = WPerm -> 3
   | Blanks -> 1
   | word InTurn -> 2
   | permutation WPerm -> 2
   | empty word -> list
-Question = growth diagram of? for? permutation? WPerm -> permuted growth 6
+Question = fomin? growth diagram of? for? permutation? OfW? WPerm -> permuted growth 8
+  | permutation ( Square ) . robinson_schensted|left_tableau|right_tableau ( ) -> rsk
+  | P ~( WPerm ) ,|and Q ~( WPerm ) -> ? rskTwice  # or functions P and Q
+  | ( P , Q ) of|for Word -> rsk
   | Rsk of|for|to|on? Word -> rsk
   | P and|, Q tableaux|tableau? of|for Word -> rsk
   | P|Q ~( WPerm ) -> ? rsk  # or a function P of Hall and Littlewood
@@ -838,8 +1101,9 @@ InTurn = Inside -> 1
   | Round -> 1
   | Square -> 1
   | Part -> 1
-Rsk = rsk correspondence? -> ""
-  | robinson - schensted -? knuth? correspondence? -> ""
+Rsk = rsk correspondence|insertion|tableaux? -> ""
+  | row|schensted insertion|insert -> ""
+  | robinson - schensted -? knuth? correspondence|insertion? -> ""
   | insertion|recording|P|Q tableau -> ""
   | insertion|recording tableaux -> ""
 TRow = Square -> 1
@@ -892,26 +1156,35 @@ SkewTableau "a skew tableau" = [ SkewRows ] -> 2  # [[None,1],[1,2]], Sage
   | skewtableau ( [ SkewRows ] ) -> 4
   | SSlashes -> 1
   | with rows SkewRows -> 3
-RectName = rectification|rectify|rect|jdt of|on? -> ""
-  | jeu de taquin of|on? -> ""
+RectName = rectification|rectify|rect|jdt of|on|:? -> ""
+  | jeu de taquin rectification? of|on|:? -> ""
 Question = RectName skew? tableau? SkewTableau -> rectOfSkew
+  | RectName ( SkewTableau ) -> rectOfSkew
   | SkewTableau . rectify ( ) -> rectOfSkew
   | rectification of Tableau of|, shape? Skew -> rect 6 3
-  | word with P = Tableau ,? and Q = Tableau -> unrsk
-  | which? permutation|word has|with P = Tableau ,? and Q = Tableau under? rsk? -> unrsk 6 11
-  | rsk ~^ ~{ - NUM } ( Tableau , Tableau ) -> unrsk 8 10
-  | rsk_inverse ( Tableau , Tableau ) -> unrsk  # Sage
-  | inverse rsk of? Tableau and|, Tableau -> unrsk
-Command = unrsk Tableau -|,|and? Tableau -> unrsk
-  | unrsk ( Tableau , Tableau ) -> unrsk
-  | rect Shape - Tableau -> rect
+  | word with PAndQ -> 3
+  | which? permutation|word has|with PAndQ under? rsk? -> 4
+  | rsk ~^ ~{ - NUM } PAndQ -> 7
+  | rsk_inverse PAndQ -> 2  # Sage
+  | inverse rsk of|for? PAndQ -> 4
+  | rsk inverse of|for? PAndQ -> 4
+PAndQ = ( Tableau , Tableau ) -> unrsk
+  | Tableau and|, Tableau -> unrsk
+  | P = Tableau ,? and? Q = Tableau -> unrsk
+Command = unrsk Tableau -? Tableau -> unrsk
+  | unrsk PAndQ -> 2
+  | rect Shape -|: Tableau -> rect
   | rect ( Lams , Tableau ) -> rect
   | tab|lrtab Shape -> tab
   | tab Shape -from Tableau -> tabFrom
-LrTableaux = LR tableaux -> ""
-  | littlewood - richardson tableaux -> ""
+LrTableaux = LR|lr skew? Tableaux -> ""
+  | littlewood - richardson skew? Tableaux -> ""
+  | yamanouchi Tableaux -> ""
+  | reverse? lattice word? Tableaux -> ""
+Tableaux = tableaux|tableau|fillings -> ""
 Question = all? LrTableaux OfShape? Skew -> tab
   | all? LrTableaux OfShape? Skew , after Tableau -> tabFrom
+  | all? LrTableaux OfShape? Skew OfContent Arg -> ! tab 4
   | Count LrTableaux OfShape? Skew -> tabNumber
   | Count LrTableaux OfShape? Skew OfContent Arg -> tabContent
 Command = expand Opt? Basis ␣Sum Opt? -> expandWith  # (expand s2 has no basis)
@@ -925,7 +1198,10 @@ Command = expand Opt? Basis ␣Sum Opt? -> expandWith  # (expand s2 has no basis
 Operands = Sum ␣Sum -> composed
 Arguments = Sum , Sum -> composed
   | OfLam , OfLam -> composed
-Question = totals of NUM generated commands|command , from seed NUM -> reading work
+Question = Square -> ? bareList  # which operation?
+  | Round -> ? bareList
+  | Blanks -> ? bareList
+  | totals of NUM generated commands|command , from seed NUM -> reading work
   | answers to lines of input , of which there are none here -> reading batch
 LrCalc = lrcalc Command -> lrcalc  # lrcalc mult -r2 2 1 - 2 1
   | lrcalc . Command -> lrcalc
@@ -950,9 +1226,14 @@ Line = LrCalc -> 1
 Asked = Question -> 1
   | Ask Asked -> 2
   | murnaghan -? nakayama? rule? for|of? Asked -> ? 6  # of characters, and of p_r s_λ
-Ask = compute|calculate|evaluate|find|decompose|draw|show|list|give|apply|do|class -> ""
+Ask = compute|calculate|evaluate|find|determine|decompose|draw|show|list|give|apply|do|class -> ""
+  | decomposition of -> ""
   | what is|are? -> ""
-  | pieri rule? for? of? -> ""
+  | dual? pieri rule|formula? of|for|:? -> ""
+  | LrName product|rule|expansion|decomposition of|for|:? -> ""
+  | LrName ~: -> ""
+  | murnaghan -? nakayama? rule? : -> ""
+  | newton identity|identities? for? :? -> ""
   | how do|can I|we -> ""
-  | pieri|product ~: -> ""
+  | product ~: -> ""
 `;

@@ -66,3 +66,6 @@ addEntries();
 addTables();
 if (document.querySelector("link[rel=manifest]") && navigator.serviceWorker) navigator.serviceWorker.register("offline.js").catch(() => {});
 begin();
+// (while nothing is asked, the notations are made ready, and a line is read, so that the first one that is typed is read as quickly as others)
+const whenIdle = (it) => (window.requestIdleCallback ? requestIdleCallback(it, { timeout: 999 }) : setTimeout(it, 999));
+whenIdle(() => (notation(), whenIdle(() => readTyped(`expand s ${"h_2*h_1+".repeat(99)}h_1`))));

@@ -36,7 +36,7 @@ function distance(left, right) {
 }
 
 /** What some say for a command. */
-const OTHER_NAMES = new Map(Object.entries({ lrcoef: "coef", lrtab: "tab", product: "mult", times: "mult", coproduct: "coprod" }));
+const OTHER_NAMES = new Map(Object.entries({ lrcoef: "coef", lrtab: "tab", product: "mult", times: "mult", outer: "mult", coproduct: "coprod" }));
 
 /** The command that a word is nearly, if it is: its begin, its begin with more letters, or with one letter of five wrong. */
 function commandLike(text) {

@@ -21,11 +21,11 @@ const PIECES = [
   "[ \\t\\u00a0\\u1680\\u2000-\\u200a\\u202f\\u205f\\u3000~]+|\\\\[,;:! ]",
   "\\d+",
   "\\\\(?:mathfrak|frak|mathcal|mathscr|mathbf|mathrm|mathbb|operatorname|text|textrm)\\s?\\{[A-Za-z ]+\\}|\\\\(?:math(?:frak|bb|cal)|frak)\\s?[A-Z]",
-  "[A-Za-z]+(?:_[A-Za-z]{2,})*",
+  "[A-Za-zü]+(?:_[A-Za-z]{2,})*",
   "-(?:from|[rm])(?![A-Za-z])(?=[ \\t\\d]|$)",
   "[⁰¹²³⁴-⁹]+",
   "[₀-₉]+",
-  "\\\\(?:begin|end)\\{ytableau\\}|\\\\\\\\|\\\\[A-Za-z]+|\\*\\*|->|(?<=[A-Za-z])'s(?![A-Za-z_({[\\d])|.",
+  "\\\\(?:begin|end)\\{(?:ytableau|[vp]matrix)\\}|\\\\\\\\|\\\\[A-Za-z]+|\\*\\*|[-=]>|(?<=[A-Za-z])'s(?![A-Za-z_({[\\d])|.",
 ];
 const PIECE = new RegExp(PIECES.map((it) => `(${it})`).join("|"), "gsu");
 
@@ -47,6 +47,8 @@ function signsOf(text, { words, same }) {
     if (word === "a" && isApart && /^ (?:[A-Za-z]{2}|\d)/.test(text.slice(end, end + 3))) return;
     if (words.has(word) || word.length === 1) return put(word, at, end);
     if (same.has(word) || same.has(small)) return put(same.get(word) ?? same.get(small), at, end);
+    const cut = words.has(small) ? -1 : word.indexOf("_");
+    if (cut > 0) return putWord(word.slice(0, cut), at), put("_", at + cut, at + cut + 1), putWord(word.slice(cut + 1), at + cut + 1);
     if (word.length > 2) return put(words.has(small) ? small : `?${word}`, at, end);
     for (const [i, c] of [...word].entries()) put(c, at + i, at + i + 1);
   };
@@ -63,11 +65,15 @@ function signsOf(text, { words, same }) {
     (piece, at, end) => put("sup", at, end, piece.normalize("NFKC")),
     (piece, at, end) => [["_"], ["{"], ["NUM", piece.normalize("NFKC")], ["}"]].forEach(([kind, value]) => put(kind, at, end, value)),
     (piece, at, end) => {
-      const name = /^\\[A-Za-z]+$/.test(piece) ? piece.slice(1) : "";
+      const [, name = ""] = /^\\(?:(?:begin|end)\{)?([A-Za-z]+)/.exec(piece) || [];
       put(same.get(piece) ?? (name === "" ? piece : same.get(name) ?? (words.has(name) ? name : `?${piece}`)), at, end);
     },
   ];
-  for (const found of text.matchAll(PIECE)) by[found.findIndex((it, i) => i > 0 && it !== undefined) - 1](found[0], found.index, found.index + found[0].length);
+  for (const found of text.matchAll(PIECE)) {
+    let i = 1;
+    while (found[i] === undefined) i += 1;
+    by[i - 1](found[0], found.index, found.index + found[0].length);
+  }
   return signs;
 }
 
@@ -82,8 +88,8 @@ function withValues(signs) {
   let front = signs.findIndex((_, at) => isGiven(at)), at = front, begin, end;
   // (a command has the numbers of the program; numbers beside each other could be a product)
   const isNumber = (it) => it.kind === "NUM" || NUMBER_LETTERS.test(it.kind), isBeside = (it, i) => i > 0 && !it.gap && isNumber(it) && isNumber(signs[i - 1]);
-  if (["quantum", "fusion"].includes(kindAt(0)) || signs.some(isBeside)) return signs;
-  while (at >= 0 && isGiven(at)) {
+  if (front < 0 || ["quantum", "fusion"].includes(kindAt(0)) || signs.some(isBeside)) return signs;
+  while (isGiven(at)) {
     for (begin = at + 2; isGiven(begin); ) begin += 2;
     for (end = begin; OF_VALUES.includes(kindAt(end)); ) end += 1;
     while (end > begin && kindAt(end - 1) === ",") end -= 1;
@@ -93,8 +99,11 @@ function withValues(signs) {
     for (; at < begin; at += 2) values.set(kindAt(at), isBare ? value : [{ kind: "[" }, ...value, { kind: "]" }]);
     for (at = end; [",", ";", ":", "and"].includes(kindAt(at)); ) at += 1;
   }
-  while (["for", "with", "where", "when", "if", "let", "and", ",", ";", ":"].includes(kindAt(front - 1))) front -= 1;
+  while (["for", "with", "where", "when", "if", "let", "and", ",", ";", ":"].includes(kindAt(front - 1)?.replace(/^\?/, ""))) front -= 1;
   const others = [...signs.slice(0, Math.max(front, 0)), ...signs.slice(at)], isUsed = values.size > 0 && [...values.keys()].every((name) => others.some((it) => it.kind === name));
+  // (n^2 is a number, and 2^2 two parts)
+  const power = others.find((it, i) => NUMBER_LETTERS.test(it.kind) && values.has(it.kind) && ["^", "sup", "**"].includes(others[i + 1]?.kind) && others[i - 1]?.kind !== "_");
+  if (power) return tooMuch(sentence("family place", { name: power.kind })), signs;
   const put = (it) => (values.get(it.kind) || [it]).map((sign, i) => ({ ...sign, at: it.at, end: it.end, gap: i === 0 ? it.gap : sign.gap }));
   return isUsed ? others.flatMap(put) : signs;
 }

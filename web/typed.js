@@ -18,12 +18,12 @@ const LEFT_OUT = [
   ["characters that are not seen", ALL_UNSEEN],
   ["the prompt", /^\s*(?:\$|sage:|>>>|In \[\d+\]:|i\d+ :)(?=[ \t])/],
   ["the comment", COMMENT],
-  ["the declaration", /^\s*(?:(?:import [\w.]+(?: as \w+)?|from [\w.]+ import [\w*]+|Sym *= *SymmetricFunctions\([A-Z]+\)|X *= *SchubertPolynomialRing\([A-Z]+\)|([mehps]) *= *(?:SymmetricFunctions\([A-Z]+\)|Sym)\.\1\(\)) *; *)+/],
+  ["the declaration", /^\s*(?:(?:import [\w.]+(?: as \w+)?|from [\w.]+ import [\w*]+|Sym *= *SymmetricFunctions\([A-Z]+\)|(?:Sym|SymmetricFunctions\([A-Z]+\))\.inject_shorthands\(\)|X *= *SchubertPolynomialRing\([A-Z]+\)|([mehps]) *= *(?:SymmetricFunctions\([A-Z]+\)|Sym)\.(?:\1|(?=\1)(?:schur|homogeneous|elementary|power|monomial))\(\)) *; *)+/],
   ["the name of the program", /^\s*(?:\S{0,200}\/)?calc(?:-static|-glibc)?(?=[ \t]|$)/],
   ["the quotes", /^\s*(?:"([^"]*)"|'([^']*)'|“([^“”]*)”)\s*$/],
   ["the quotes", /(?<=^|[ \t])["'“]((?! )[^"'“”]*[^"'“” ])["'”](?=[ \t]|$)/g],
   ["the signs around a formula", /^\s*(?:\$\$?([^$]*)\$\$?|\\\(([^\\]*(?:\\[^)][^\\]*)*)\\\)|\\\[([^\\]*(?:\\[^\]][^\\]*)*)\\\])\s*$/],
-  ["the sign at the end", /(?:=(?:[ \t]*\?)?|\?|(?<=[\])}\w])\.)$/],
+  ["the sign at the end", /(?:=(?:[ \t]*\?)?|[?;]|(?<=[\])}\w])\.)$/],
 ];
 /** A word in quotes beside a sign, or numbers in quotes: these belong together in a way that is lost without the quotes. */
 const QUOTED_APART = /["'’”] ?["'‘“] ?[-+*/]|[-+*/] ?["'’”] ["'‘“]/;
@@ -57,8 +57,8 @@ function offered(readings) {
 
 /** All readings of a line by the notations: those that count, those with something changed, whether something was cut short, and where the line stops. */
 function readingsOf(line) {
-  const signs = withValues(signsOf(line, notation()));
   Object.assign(cutShort, { is: false, why: "" });
+  const signs = withValues(signsOf(line, notation()));
   const { values, isMany, isWhole, far, tried } = parsed(notation(), "Line", signs);
   const readings = values.map(({ value, digits, isRepair, isDoubt }) => ({ ...value, digits, isRepair, isDoubtful: isDoubt || digits === 2 || Boolean(value.isDoubtful) }));
   const sure = readings.filter((it) => !it.isRepair), keys = new Set(sure.map(keyOf));
@@ -68,7 +68,7 @@ function readingsOf(line) {
 
 /** What can come at a place, as the page calls it. */
 function expectedAt(states) {
-  const nameOf = (name, sign, rule) => notation().labels.get(name) ?? SENTENCES["next sign"][sign] ?? (rule >= 0 || /^[A-Za-z]{2}/.test(sign) ? "" : sign);
+  const nameOf = (name, sign, rule) => notation().labels.get(name) ?? SENTENCES["next sign"][sign] ?? (rule >= 0 || /^(?:[A-Za-z]{2}|[Ā-ɏ])/.test(sign) ? "" : sign);
   return [...new Set(states.map((it) => nameOf(it.name, it.name.split("|")[0], it.rule)))].filter(Boolean).slice(0, 6);
 }
 
