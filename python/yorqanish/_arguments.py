@@ -8,7 +8,7 @@ from contextlib import suppress
 from fractions import Fraction
 from numbers import Integral, Rational
 from operator import index
-from typing import Any, List, NoReturn, Optional, Protocol, Sequence, Set, SupportsFloat, SupportsIndex, Tuple, TypeVar, Union, cast
+from typing import Any, List, NoReturn, Optional, Protocol, Sequence, Set, Sized, SupportsFloat, SupportsIndex, Tuple, TypeVar, Union, cast
 
 Numbers = Tuple[int, ...]
 Partition = Numbers
@@ -18,12 +18,10 @@ Exponents = Numbers
 Row = Tuple[Optional[int], ...]
 
 
-class Array(Protocol):
+class Array(Sized, Protocol):
     """An array of numpy, or a column of pandas: what mypy knows of them. (Sets and dictionaries have no such method.)"""
 
     def tolist(self) -> Any: ...
-
-    def __len__(self) -> int: ...
 
 
 # What is taken for a partition, a permutation or a word: sequences (tuples, lists, ranges, ..) and the types of LISTS.
@@ -72,11 +70,9 @@ def integer(value: object) -> Optional[int]:
     value is none, nor is a residue class. Of a subclass of `int` only the number is kept."""
     if type(value) is int:
         return value
-    if not isinstance(value, Integral) or isinstance(value, bool):
-        return None
-    # (numpy's spans of time are registered, and are none)
+    # (numpy's spans of time are registered, and have no index)
     with suppress(TypeError):
-        return int(index(value))
+        return int(index(value)) if isinstance(value, Integral) and not isinstance(value, bool) else None
     return None
 
 

@@ -5,15 +5,14 @@ import os
 from functools import partial
 from typing import Any, Callable, Dict, Iterable, Iterator, List, Optional, SupportsFloat, SupportsIndex, Tuple, Type, TypeVar, Union, cast
 
-from . import _arguments, _family, _search
+from . import _arguments, _family
 from ._arguments import Exponents, Numbers, Partition, Permutation, Rows, Shape, numbers, partition, text_of, whole, without_zeros
 from ._commands import typed, words_for
-from ._elements import BASES, Expansion, Home, Parent
+from ._elements import BASES, Expansion, Home, Parent, basis_of
 from ._kinds import Number, atom
-from ._lines import Block, Desk, Lanes, Result, Source, Task, answer_of, blocks, own, with_bar
-from ._sage import basis_of
+from ._lines import Block, Desk, Lanes, Result, Task, answer_of, blocks, own
 from ._tableaux import Grid, Pair, Tableau, tableau_of
-from ._ways import LONGEST, NoCalculator, Way
+from ._ways import IS_WINDOWS, LONGEST, Library, NoCalculator, Way, program as program_at
 
 Words = Union[str, SupportsIndex, Shape]
 Seconds = Optional[SupportsFloat]
@@ -37,13 +36,6 @@ class Calculator:
     >>> calc.s[1] * calc.s[1] == calc.mult([1], [1])
     True"""
 
-    s: Parent[Partition]
-    p: Parent[Partition]
-    h: Parent[Partition]
-    e: Parent[Partition]
-    m: Parent[Partition]
-    X: Parent[Permutation]
-    monomials: Parent[Exponents]
     # The copies of pickled Calculators that this process has opened.
     _kept: Dict[Any, Calculator] = {}
 
@@ -54,13 +46,13 @@ class Calculator:
         # (a path means the same file in another folder)
         given = [it if it in (True, False, None) else os.path.abspath(it) for it in given]
         self._library, self._seconds = bool(library), _arguments.seconds(timeout)
-        self._way: Way = _search.library(given[0]) if library or _search.IS_WINDOWS else _search.program(given[1])
+        self._way: Way = Library(given[0]) if library or IS_WINDOWS else program_at(given[1])
         self._arguments = *given, self._way.digest, self._seconds
         self._own = Desk(self._way, self._arguments, None)
         self._own = self._desk(timeout)
         self._home = Home(self._arguments, self)
-        for name in (*BASES, "X", "monomials"):
-            setattr(self, name, self._home.parent(name))
+        parents: List[Parent[Numbers]] = [self._home.parent(it) for it in (*BASES, "X", "monomials")]
+        self.s, self.p, self.h, self.e, self.m, self.X, self.monomials = parents
 
     @classmethod
     def _opened(cls, *arguments: Any) -> Calculator:
@@ -296,10 +288,8 @@ class Calculator:
             raise ValueError("workers: at least 1")
         self._way.check()
         desk = self._desk(timeout)
-        outcomes = Lanes(desk._replace(way=self._way.apart(False)) if count > 1 else desk, count).outcomes(Source(lines))
-        if progress is True:
-            outcomes = with_bar(outcomes, len(lines) if isinstance(lines, (list, tuple)) else None)
-        return own(blocks(outcomes, None if isinstance(progress, bool) else progress), self._way.check)
+        outcomes = Lanes(desk._replace(way=self._way.apart(False)) if count > 1 else desk, count, lines).outcomes()
+        return own(blocks(outcomes, progress, len(lines) if isinstance(lines, (list, tuple)) else None), self._way.check)
 
     family = _family.family
 

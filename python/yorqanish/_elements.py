@@ -1,4 +1,5 @@
-"""Parents and their elements. A parent has its labels and its product, which is asked of `calc`; an element is a parent and a list of terms."""
+"""Parents and their elements. A parent has its labels and its product, which is asked of `calc`; an element is a parent and a list of terms.
+Those of Sage are made of them, and taken; it is imported by what makes one alone."""
 from __future__ import annotations
 
 import json
@@ -16,10 +17,11 @@ from typing import Any, Callable, Dict, Generic, ItemsView, Iterable, Iterator, 
 from ._arguments import Coefficient, Fixed, Label, Numbers, integer, ratio, whole
 from ._commands import typed
 from ._kinds import DOUBLE, MONOMIALS, PAIRS, PERMUTATIONS, QUANTUM, SYMMETRIC, Kind, Number, added, atom, term
-from ._sage import basis_of, element_of, forbid_as_coefficient, is_element, is_same, refuse_residue
 
 # The bases of the ring of symmetric functions, between which elements are converted.
 BASES = ("s", "p", "h", "e", "m")
+# Sage's names of them, and the number of variables of its ring for Schubert polynomials of `calc`, which have at most so many.
+OF_SAGE, VARIABLES = dict(zip(("Schur", "powersum", "homogeneous", "elementary", "monomial"), BASES)), 16
 # What an element can be multiplied by: exact numbers of any package.
 Scalar = Union[SupportsIndex, Rational]
 # A list of more terms is shown by its first and last ones in a notebook.
@@ -71,10 +73,8 @@ class Home:
         return self.known.get(key) or self.known.setdefault(key, Parent(self, *key))
 
 
-@lru_cache(None)
-def home_of(arguments: Any) -> Home:
-    """The home of what was pickled, and of the answers of a batch."""
-    return Home(arguments)
+# The home of what was pickled, and of the answers of a batch.
+home_of = lru_cache(None)(Home)
 
 
 class Parent(Fixed, Generic[Label]):
@@ -249,6 +249,18 @@ ANSWERS = {"mult": "s", "skew": "s", "stanley": "s", "coprod": "tensor_square", 
 ANSWERS.update(quantum="quantum_ring", fusion="fusion_ring", expand="", plethysm="")
 
 
+def is_element(value: Any) -> bool:
+    """Whether a value is an element of one of Sage's parents; there is none where Sage is not loaded."""
+    structure = sys.modules.get("sage.structure.element")
+    return structure is not None and isinstance(value, structure.Element)
+
+
+def basis_of(value: Any) -> Optional[str]:
+    """The basis that an element is in, if it is one of Sage's symmetric functions in a basis of `calc`."""
+    name = getattr(value.parent(), "basis_name", None) if is_element(value) else None
+    return OF_SAGE.get(name()) if callable(name) else None
+
+
 def exact(value: Any) -> Number:
     """A coefficient of any exact type: an `int` if it is whole."""
     if type(value) is int:
@@ -260,12 +272,13 @@ def exact(value: Any) -> Number:
 
 
 def _scalar(value: Any) -> Optional[Number]:
-    """The exact number that a value is; nothing, if it is a column of numpy's or pandas', or an element of Sage, which does the operation."""
+    """The exact number that a value is; nothing, if it is a column of numpy's or pandas', or an element of Sage, which does the operation, unless
+    it is a residue."""
     if ratio(value):
         return exact(value)
-    if is_element(value):
-        refuse_residue(value)
-    elif not hasattr(type(value), "__array_ufunc__"):
+    base = getattr(value.parent(), "base_ring", None) if is_element(value) else None
+    is_exact = getattr(base(), "characteristic", int)() == 0 if callable(base) else is_element(value) or hasattr(type(value), "__array_ufunc__")
+    if not is_exact:
         raise TypeError(f"{value!r} is not an exact number")
     return None
 
@@ -385,13 +398,21 @@ class Expansion(Fixed, Generic[Label, Coefficient]):
                 return self._terms == self.parent.given(other.items())
             return False
         if ratio(other):
-            forbid_as_coefficient(other)
+            # (Sage makes an expansion the coefficient of an element that is multiplied by it and has no ring in common with it. Before it does so it
+            # compares it with Python's 1, which is not what somebody types in Sage; there is no other place to say no.)
+            if type(other) is int and other == 1 and "sage.data_structures.blas_dict" in sys.modules:
+                raise TypeError("an expansion is compared with 1, or multiplied by an element of Sage over another ring: use to_sage(ring)")
             return self._terms == self.parent(other)._terms
         numpy: Any = sys.modules.get("numpy")
         if numpy and isinstance(other, numpy.ndarray):
             # (numpy would say False if its own comparison is an error)
             return numpy.array([self == it for it in other.flat], dtype=bool).reshape(other.shape)
-        return is_same(self, other) if is_element(other) else NotImplemented
+        if not is_element(other):
+            return NotImplemented
+        # (as Sage compares elements: of one function also in two bases)
+        with suppress(AttributeError, TypeError, ValueError):
+            return bool(self.to_sage(cast(Any, other).parent().base_ring() if self.parent.name in BASES else None) == other)
+        return False
 
     def __ne__(self, other: object) -> Any:
         same = self == other
@@ -516,7 +537,30 @@ class Expansion(Fixed, Generic[Label, Coefficient]):
         """The element of Sage: of `SymmetricFunctions(QQ)`, of its tensor square for a coproduct, of `SymmetricFunctions` over QQ[q] for a
         quantum product, of a polynomial ring in x0, x1, .. for monomials, of `SchubertPolynomialRing(ZZ)` for permutations. For other parents
         it is a TypeError. `ring` is the ring of coefficients if it is not QQ; it is an error if a coefficient is not in it."""
-        return element_of(self, ring)
+        from sage import all as sage  # type: ignore
+
+        ring, name = sage.QQ if ring is None else ring, self.parent.name
+        scalars: Dict[Any, Any] = {label: ring(sage.QQ((int(c.numerator), int(c.denominator)))) for label, c in self}
+        functions = sage.SymmetricFunctions(ring)
+        s = functions.s()
+        if name in BASES:
+            return getattr(functions, name)().sum_of_terms((sage.Partition(list(label)), c) for label, c in scalars.items())
+        if name == "tensor_square":
+            return sum((c * s(list(a)).tensor(s(list(b))) for (a, b), c in scalars.items()), s.tensor_square().zero())
+        if name == "quantum_ring":
+            over = sage.PolynomialRing(ring, "q")
+            table: Dict[Any, Any] = {}
+            for (power, label), c in scalars.items():
+                table[label] = table.get(label, over.zero()) + over(c) * over.gen() ** power
+            return sage.SymmetricFunctions(over).s().sum_of_terms((sage.Partition(list(label)), c) for label, c in table.items())
+        if name == "monomials":
+            count = max([VARIABLES, *map(len, scalars)])
+            x = sage.PolynomialRing(ring, [f"x{i}" for i in range(count)]).gens()
+            return sum((c * sage.prod(v**e for v, e in zip(x, label)) for label, c in scalars.items()), x[0].parent().zero())
+        if name == "X":
+            schubert = sage.SchubertPolynomialRing(sage.ZZ if ring is sage.QQ else ring)
+            return sum((schubert.base_ring()(c) * schubert(list(label)) for label, c in scalars.items()), schubert.zero())
+        raise TypeError(f"Sage has no ring for elements of {self.parent}")
 
     # (it takes part in an operation with one of Sage's elements, whose answer is Sage's)
     _sage_ = to_sage
