@@ -110,8 +110,7 @@ class Desk(NamedTuple):
             # (or each line by itself, to see whose it is)
             with suppress(MemoryError, Ended):
                 texts = self.way.blocks([sent(it) or NO_COMMAND for it in lines], most)
-                refusals = (Refusal.of(text, line) if text[:1] == "!" else None for line, text in zip(lines, texts))
-                return [Block(line, "" if refusal else text, refusal, self.arguments) for line, text, refusal in zip(lines, texts, refusals)]
+                return [Block(it, *(("", Refusal.of(text, it)) if text[:1] == "!" else (text, None)), self.arguments) for it, text in zip(lines, texts)]
         return list(map(self.one, lines))
 
 
