@@ -26,8 +26,7 @@ class Array(Sized, Protocol):
 
 # What is taken for a partition, a permutation or a word: sequences (tuples, lists, ranges, ..) and the types of LISTS.
 Shape = Union[Sequence[SupportsIndex], Array]
-# What is taken for a tableau: a sequence of its rows from the top, or one of the types of TABLES; of a skew one, the rows of its entries, or rows
-# with None for the cells of the inner partition.
+# What is taken for a tableau: its rows from the top, or one of the types of TABLES. Those of a skew one may have None for the cells of the inner partition.
 Rows = Union[Sequence[Union[Shape, Sequence[Optional[SupportsIndex]]]], Array]
 
 Self = TypeVar("Self")
@@ -66,8 +65,7 @@ class Fixed:
 
 
 def integer(value: object) -> Optional[int]:
-    """The number that a value is whose type is registered as integral: `int`, and the integers of numpy, Sage, sympy and gmpy2. A truth
-    value is none, nor is a residue class. Of a subclass of `int` only the number is kept."""
+    """The number that a value is whose type is registered as integral: an `int`. A truth value is none, nor is a residue class."""
     if type(value) is int:
         return value
     # (numpy's spans of time are registered, and have no index)
@@ -149,7 +147,8 @@ def without_zeros(values: Numbers) -> Numbers:
 
 def partition(values: Shape, name: str) -> Numbers:
     """The parts of a partition, without zeros at the end."""
-    return without_zeros(numbers(values, name))
+    parts = numbers(values, name)
+    return parts if parts and parts[-1] else without_zeros(parts)
 
 
 def skew_tableau(rows: Rows, name: str) -> Tuple[Tuple[Numbers, ...], Numbers]:

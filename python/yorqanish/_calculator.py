@@ -26,10 +26,9 @@ LARGEST_DEGREE, LONGEST_TERM = 20, 160
 class Calculator:
     """`calc`: the program `calc` in a separate process, or with `library=True` its C library in this process.
 
-    Ctrl-C ends the program, and so does a call that takes longer than `timeout` seconds; the next call starts it again. The library is
-    faster for many small calls, but cannot be stopped. `program` and `library` can be paths; python/README.md says where they are looked
-    for otherwise. A Calculator can be shared by threads, which then work in parallel. It can also be used after a fork, and be pickled, as its
-    methods can: a process opens one copy of it, with a program of its own, and keeps that.
+    Ctrl-C ends the program, and so does a call that takes longer than `timeout` seconds; the next call starts it again. The library is faster for many
+    small calls, but cannot be stopped. `program` and `library` can be paths; python/README.md says where they are looked for otherwise. A Calculator
+    can be shared by threads, used after a fork, and pickled, as its methods can.
 
     `s`, `p`, `h`, `e`, `m` are the symmetric functions in a basis, `X` the Schubert polynomials, `monomials` the polynomials in x1, x2, ..
     >>> calc = Calculator()
@@ -95,7 +94,7 @@ class Calculator:
     def _asked(self, kind: Type[Answer], command: str, *values: Any, rows: Any = None, timeout: Seconds) -> Answer:
         """The answer of a command to these arguments."""
         words, desk = words_for(command, values, rows), self._own if timeout is None else self._desk(timeout)
-        answer: Answer = answer_of(words, desk.texts([" ".join(words)])[0], self._home)
+        answer: Answer = answer_of(words, desk.texts([typed(words)])[0], self._home)
         return answer
 
     def text(self, *parts: Words, timeout: Seconds = None) -> str:
@@ -168,11 +167,8 @@ class Calculator:
 
     def expand(self, target: str, expression: Expression, *, timeout: Seconds = None) -> Expansion[Partition, Number]:
         """An expression in the basis `target`: m, e, h, p or s. It is a string without blanks, or an element of one of these bases, or of Sage's.
-        >>> calc = Calculator()
-        >>> calc.expand("p", "s[2,1]")
-        Expansion(calc.p, {(3,): Fraction(-1, 3), (1, 1, 1): Fraction(1, 3)})
-        >>> calc.expand("h", calc.mult([1], [1]))
-        Expansion(calc.h, {(1, 1): 1})"""
+        >>> Calculator().expand("p", "s[2,1]")
+        Expansion(calc.p, {(3,): Fraction(-1, 3), (1, 1, 1): Fraction(1, 3)})"""
         return self._sum("expand", target, expression, "expression", "", timeout)
 
     def plethysm(self, target: str, outer: Expression, inner: Expression, *, timeout: Seconds = None) -> Expansion[Partition, Number]:
@@ -222,10 +218,7 @@ class Calculator:
         return bool(self.expand("s", left, timeout=timeout) == self.expand("s", right, timeout=timeout))
 
     def quantum_ring(self, rows: SupportsIndex, cols: SupportsIndex) -> Parent[Tuple[int, Partition]]:
-        """The quantum cohomology of the Grassmannian Gr(rows, rows + cols), with the products of `quantum`.
-        >>> ring = Calculator().quantum_ring(2, 2)
-        >>> print(ring[2, 1] * ring[1] + 3 * ring.q)
-        s[2,2]+4*q*s[]"""
+        """The quantum cohomology of the Grassmannian Gr(rows, rows + cols), with the products of `quantum`."""
         return self._home.parent("quantum_ring", rows, cols)
 
     def cohomology(self, rows: SupportsIndex, dimension: SupportsIndex) -> Parent[Partition]:
@@ -245,7 +238,7 @@ class Calculator:
         is the time for each. They come from the program also with `library=True`.
         >>> list(Calculator().tab([2, 1], [1]))
         [Tableau(((None, 1), (1,))), Tableau(((None, 1), (2,)))]"""
-        line = " ".join(words_for("tab", (outer, inner) if after is None else (outer, inner, after)))
+        line = typed(words_for("tab", (outer, inner) if after is None else (outer, inner, after)))
         desk = self._own if timeout is None else self._own._replace(seconds=_arguments.seconds(timeout))
         return own(map(partial(tableau_of, inner=partition(inner, "inner")), desk.listed(line)), self._way.check)
 
@@ -299,10 +292,7 @@ class Calculator:
 
     def submit(self, method: Callable[..., Result], *arguments: Any, **options: Any) -> Task[Result]:
         """A call of a method of this Calculator in a thread: `calc.submit(calc.mult, [2, 1], [1])` is a Future, which can be awaited, too. If it is
-        cancelled, its command stops.
-        >>> calc = Calculator()
-        >>> calc.submit(calc.coef, [2], [1], [1]).result()
-        1"""
+        cancelled, its command stops."""
         if getattr(method, "__self__", None) is not self:
             raise TypeError(f"submit: {method!r} is not a method of this Calculator")
         calculator = object.__new__(Calculator)
