@@ -49,9 +49,9 @@ def words_for(command: str, values: Iterable[Any], rows: Any = None) -> List[Any
         if sign:
             them.append(sign)
         if sort == PARTITION:
-            parts = partition(value, name)
-            them += parts
-            inner = parts if sign == "/" else inner
+            # (the last one before a tableau is the inner one of its shape)
+            inner = partition(value, name)
+            them += inner
         elif sort == NUMBER:
             them.append(whole(value, name))
         else:

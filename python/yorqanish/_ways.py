@@ -170,21 +170,21 @@ class Library(Way):
         self._idle = []
         # (another library of this name, which may hang, or another version, is found out in a thread of its own)
         got: SimpleQueue[Tuple[int, bytes]] = SimpleQueue()
-        _thread.start_new_thread(lambda: got.put(self.run(b"batch", b"\n".join((*QUESTIONS, b"")))), ())
+        _thread.start_new_thread(lambda: got.put(self.run(b"\n".join(QUESTIONS) + b"\n")), ())
         with suppress(Empty):
             if got.get(timeout=PATIENCE) == (1, BREAK.join(QUESTIONS.values())):
                 return
         raise not_calc(path)
 
-    def run(self, line: bytes, given: bytes = b"") -> Tuple[int, bytes]:
-        """The status of the line's command, and its text. The text is asked for once more if it is longer than the buffer."""
+    def run(self, given: bytes) -> Tuple[int, bytes]:
+        """The status of a batch of these lines, and its text. The text is asked for once more if it is longer than the buffer."""
         self.check()
         try:
             buffer: Buffer = self._idle.pop()
         except IndexError:
             buffer = Buffer(ROOM)
         while True:
-            status, length = self._run(line, len(line), given, len(given), *buffer.place), buffer.length.value
+            status, length = self._run(b"batch", 5, given, len(given), *buffer.place), buffer.length.value
             if length <= buffer.room:
                 break
             buffer = Buffer(length)
@@ -194,7 +194,7 @@ class Library(Way):
         return status, text
 
     def blocks(self, lines: Sequence[bytes], seconds: Optional[float]) -> List[str]:
-        status, text = self.run(b"batch", b"\n".join((*lines, b"")))
+        status, text = self.run(b"\n".join(lines) + b"\n")
         if status in (NO_TEXT, NO_MEMORY):
             raise MemoryError("calc was refused memory")
         texts = text.decode("ascii").split("--\n")
