@@ -3,9 +3,8 @@
     >>> calc.mult([2, 1], [2, 1])[3, 2, 1]
     2
 
-Each command of `calc` is a method of `Calculator`. It returns partitions, permutations and tableaux as tuples, and
-takes any sequence of integers: lists, numpy arrays, Sage partitions. Coefficients are `int` or `Fraction`. A command that `calc` refuses
-raises a `Refusal`."""
+Each command of `calc` is a method of `Calculator`. It takes any sequence of integers, and returns partitions, permutations and tableaux as tuples.
+Coefficients are `int` or `Fraction`. A command that `calc` refuses raises a `Refusal`."""
 from pathlib import Path as _Path
 
 # (each under its own name, for users who import it by that name and for their types)

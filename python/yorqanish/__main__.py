@@ -3,8 +3,7 @@ import os
 import subprocess
 import sys
 
-from ._search import IS_WINDOWS, PROGRAM, near, program
-from ._ways import NoCalculator
+from ._ways import IS_WINDOWS, PROGRAM, NoCalculator, near, program
 
 if __name__ == "__main__":
     try:

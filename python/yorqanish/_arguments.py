@@ -8,7 +8,7 @@ from contextlib import suppress
 from fractions import Fraction
 from numbers import Integral, Rational
 from operator import index
-from typing import Any, List, NoReturn, Optional, Protocol, Sequence, Set, SupportsFloat, SupportsIndex, Tuple, TypeVar, Union, cast
+from typing import Any, List, NoReturn, Optional, Protocol, Sequence, Set, Sized, SupportsFloat, SupportsIndex, Tuple, TypeVar, Union, cast
 
 Numbers = Tuple[int, ...]
 Partition = Numbers
@@ -18,18 +18,15 @@ Exponents = Numbers
 Row = Tuple[Optional[int], ...]
 
 
-class Array(Protocol):
+class Array(Sized, Protocol):
     """An array of numpy, or a column of pandas: what mypy knows of them. (Sets and dictionaries have no such method.)"""
 
     def tolist(self) -> Any: ...
 
-    def __len__(self) -> int: ...
-
 
 # What is taken for a partition, a permutation or a word: sequences (tuples, lists, ranges, ..) and the types of LISTS.
 Shape = Union[Sequence[SupportsIndex], Array]
-# What is taken for a tableau: a sequence of its rows from the top, or one of the types of TABLES; of a skew one, the rows of its entries, or rows
-# with None for the cells of the inner partition.
+# What is taken for a tableau: its rows from the top, or one of the types of TABLES. Those of a skew one may have None for the cells of the inner partition.
 Rows = Union[Sequence[Union[Shape, Sequence[Optional[SupportsIndex]]]], Array]
 
 Self = TypeVar("Self")
@@ -68,15 +65,12 @@ class Fixed:
 
 
 def integer(value: object) -> Optional[int]:
-    """The number that a value is whose type is registered as integral: `int`, and the integers of numpy, Sage, sympy and gmpy2. A truth
-    value is none, nor is a residue class. Of a subclass of `int` only the number is kept."""
+    """The number that a value is whose type is registered as integral: an `int`. A truth value is none, nor is a residue class."""
     if type(value) is int:
         return value
-    if not isinstance(value, Integral) or isinstance(value, bool):
-        return None
-    # (numpy's spans of time are registered, and are none)
+    # (numpy's spans of time are registered, and have no index)
     with suppress(TypeError):
-        return int(index(value))
+        return int(index(value)) if isinstance(value, Integral) and not isinstance(value, bool) else None
     return None
 
 
@@ -153,7 +147,8 @@ def without_zeros(values: Numbers) -> Numbers:
 
 def partition(values: Shape, name: str) -> Numbers:
     """The parts of a partition, without zeros at the end."""
-    return without_zeros(numbers(values, name))
+    parts = numbers(values, name)
+    return parts if parts and parts[-1] else without_zeros(parts)
 
 
 def skew_tableau(rows: Rows, name: str) -> Tuple[Tuple[Numbers, ...], Numbers]:

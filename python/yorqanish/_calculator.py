@@ -5,15 +5,14 @@ import os
 from functools import partial
 from typing import Any, Callable, Dict, Iterable, Iterator, List, Optional, SupportsFloat, SupportsIndex, Tuple, Type, TypeVar, Union, cast
 
-from . import _arguments, _family, _search
+from . import _arguments, _family
 from ._arguments import Exponents, Numbers, Partition, Permutation, Rows, Shape, numbers, partition, text_of, whole, without_zeros
 from ._commands import typed, words_for
-from ._elements import BASES, Expansion, Home, Parent
+from ._elements import BASES, Expansion, Home, Parent, basis_of
 from ._kinds import Number, atom
-from ._lines import Block, Desk, Lanes, Result, Source, Task, answer_of, blocks, own, with_bar
-from ._sage import basis_of
+from ._lines import Block, Desk, Lanes, Result, Task, answer_of, blocks, own
 from ._tableaux import Grid, Pair, Tableau, tableau_of
-from ._ways import LONGEST, NoCalculator, Way
+from ._ways import IS_WINDOWS, LONGEST, Library, NoCalculator, Way, program as program_at
 
 Words = Union[str, SupportsIndex, Shape]
 Seconds = Optional[SupportsFloat]
@@ -27,23 +26,15 @@ LARGEST_DEGREE, LONGEST_TERM = 20, 160
 class Calculator:
     """`calc`: the program `calc` in a separate process, or with `library=True` its C library in this process.
 
-    Ctrl-C ends the program, and so does a call that takes longer than `timeout` seconds; the next call starts it again. The library is
-    faster for many small calls, but cannot be stopped. `program` and `library` can be paths; python/README.md says where they are looked
-    for otherwise. A Calculator can be shared by threads, which then work in parallel. It can also be used after a fork, and be pickled, as its
-    methods can: a process opens one copy of it, with a program of its own, and keeps that.
+    Ctrl-C ends the program, and so does a call that takes longer than `timeout` seconds; the next call starts it again. The library is faster for many
+    small calls, but cannot be stopped. `program` and `library` can be paths; python/README.md says where they are looked for otherwise. A Calculator
+    can be shared by threads, used after a fork, and pickled, as its methods can.
 
     `s`, `p`, `h`, `e`, `m` are the symmetric functions in a basis, `X` the Schubert polynomials, `monomials` the polynomials in x1, x2, ..
     >>> calc = Calculator()
     >>> calc.s[1] * calc.s[1] == calc.mult([1], [1])
     True"""
 
-    s: Parent[Partition]
-    p: Parent[Partition]
-    h: Parent[Partition]
-    e: Parent[Partition]
-    m: Parent[Partition]
-    X: Parent[Permutation]
-    monomials: Parent[Exponents]
     # The copies of pickled Calculators that this process has opened.
     _kept: Dict[Any, Calculator] = {}
 
@@ -54,13 +45,13 @@ class Calculator:
         # (a path means the same file in another folder)
         given = [it if it in (True, False, None) else os.path.abspath(it) for it in given]
         self._library, self._seconds = bool(library), _arguments.seconds(timeout)
-        self._way: Way = _search.library(given[0]) if library or _search.IS_WINDOWS else _search.program(given[1])
+        self._way: Way = Library(given[0]) if library or IS_WINDOWS else program_at(given[1])
         self._arguments = *given, self._way.digest, self._seconds
         self._own = Desk(self._way, self._arguments, None)
         self._own = self._desk(timeout)
         self._home = Home(self._arguments, self)
-        for name in (*BASES, "X", "monomials"):
-            setattr(self, name, self._home.parent(name))
+        parents: List[Parent[Numbers]] = [self._home.parent(it) for it in (*BASES, "X", "monomials")]
+        self.s, self.p, self.h, self.e, self.m, self.X, self.monomials = parents
 
     @classmethod
     def _opened(cls, *arguments: Any) -> Calculator:
@@ -103,7 +94,7 @@ class Calculator:
     def _asked(self, kind: Type[Answer], command: str, *values: Any, rows: Any = None, timeout: Seconds) -> Answer:
         """The answer of a command to these arguments."""
         words, desk = words_for(command, values, rows), self._own if timeout is None else self._desk(timeout)
-        answer: Answer = answer_of(words, desk.texts([" ".join(words)])[0], self._home)
+        answer: Answer = answer_of(words, desk.texts([typed(words)])[0], self._home)
         return answer
 
     def text(self, *parts: Words, timeout: Seconds = None) -> str:
@@ -176,11 +167,8 @@ class Calculator:
 
     def expand(self, target: str, expression: Expression, *, timeout: Seconds = None) -> Expansion[Partition, Number]:
         """An expression in the basis `target`: m, e, h, p or s. It is a string without blanks, or an element of one of these bases, or of Sage's.
-        >>> calc = Calculator()
-        >>> calc.expand("p", "s[2,1]")
-        Expansion(calc.p, {(3,): Fraction(-1, 3), (1, 1, 1): Fraction(1, 3)})
-        >>> calc.expand("h", calc.mult([1], [1]))
-        Expansion(calc.h, {(1, 1): 1})"""
+        >>> Calculator().expand("p", "s[2,1]")
+        Expansion(calc.p, {(3,): Fraction(-1, 3), (1, 1, 1): Fraction(1, 3)})"""
         return self._sum("expand", target, expression, "expression", "", timeout)
 
     def plethysm(self, target: str, outer: Expression, inner: Expression, *, timeout: Seconds = None) -> Expansion[Partition, Number]:
@@ -230,10 +218,7 @@ class Calculator:
         return bool(self.expand("s", left, timeout=timeout) == self.expand("s", right, timeout=timeout))
 
     def quantum_ring(self, rows: SupportsIndex, cols: SupportsIndex) -> Parent[Tuple[int, Partition]]:
-        """The quantum cohomology of the Grassmannian Gr(rows, rows + cols), with the products of `quantum`.
-        >>> ring = Calculator().quantum_ring(2, 2)
-        >>> print(ring[2, 1] * ring[1] + 3 * ring.q)
-        s[2,2]+4*q*s[]"""
+        """The quantum cohomology of the Grassmannian Gr(rows, rows + cols), with the products of `quantum`."""
         return self._home.parent("quantum_ring", rows, cols)
 
     def cohomology(self, rows: SupportsIndex, dimension: SupportsIndex) -> Parent[Partition]:
@@ -253,7 +238,7 @@ class Calculator:
         is the time for each. They come from the program also with `library=True`.
         >>> list(Calculator().tab([2, 1], [1]))
         [Tableau(((None, 1), (1,))), Tableau(((None, 1), (2,)))]"""
-        line = " ".join(words_for("tab", (outer, inner) if after is None else (outer, inner, after)))
+        line = typed(words_for("tab", (outer, inner) if after is None else (outer, inner, after)))
         desk = self._own if timeout is None else self._own._replace(seconds=_arguments.seconds(timeout))
         return own(map(partial(tableau_of, inner=partition(inner, "inner")), desk.listed(line)), self._way.check)
 
@@ -296,10 +281,8 @@ class Calculator:
             raise ValueError("workers: at least 1")
         self._way.check()
         desk = self._desk(timeout)
-        outcomes = Lanes(desk._replace(way=self._way.apart(False)) if count > 1 else desk, count).outcomes(Source(lines))
-        if progress is True:
-            outcomes = with_bar(outcomes, len(lines) if isinstance(lines, (list, tuple)) else None)
-        return own(blocks(outcomes, None if isinstance(progress, bool) else progress), self._way.check)
+        outcomes = Lanes(desk._replace(way=self._way.apart(False)) if count > 1 else desk, count, lines).outcomes()
+        return own(blocks(outcomes, progress, len(lines) if isinstance(lines, (list, tuple)) else None), self._way.check)
 
     family = _family.family
 
@@ -309,10 +292,7 @@ class Calculator:
 
     def submit(self, method: Callable[..., Result], *arguments: Any, **options: Any) -> Task[Result]:
         """A call of a method of this Calculator in a thread: `calc.submit(calc.mult, [2, 1], [1])` is a Future, which can be awaited, too. If it is
-        cancelled, its command stops.
-        >>> calc = Calculator()
-        >>> calc.submit(calc.coef, [2], [1], [1]).result()
-        1"""
+        cancelled, its command stops."""
         if getattr(method, "__self__", None) is not self:
             raise TypeError(f"submit: {method!r} is not a method of this Calculator")
         calculator = object.__new__(Calculator)

@@ -2,74 +2,60 @@
 from __future__ import annotations
 
 import re
-from functools import lru_cache
 from itertools import takewhile
-from typing import Any, Dict, Iterable, List, NamedTuple, Optional, Tuple, Type, cast
+from typing import Any, Dict, Iterable, List, Optional, Sequence, Tuple, Type
 
 from ._arguments import Numbers, numbers, partition, spoken, whole, without_zeros
 
 # What an argument can be. Numbers and expressions are one word; the others are lists.
 PARTITION, PERMUTATION, LETTERS, TABLEAU, NUMBER, EXPRESSION = range(6)
-
-
-class Argument(NamedTuple):
-    """An argument of a command: its name, what it is, and the word in front of it."""
-
-    name: str
-    sort: int
-    sign: str = ""
-
-
+# An argument of a command: its name, what it is, and the word in front of it. (Plain tuples are unpacked the fastest.)
+Argument = Tuple[str, int, str]
 # (one factor more than `calc` takes, which it then refuses)
-FACTORS = [Argument(f"factor {i}", PARTITION, "-" if i > 1 else "") for i in range(1, 10)]
-ROWS, OUTER, INNER, TARGET = Argument("rows", NUMBER), Argument("outer", PARTITION), Argument("inner", PARTITION, "/"), Argument("target", EXPRESSION)
-PERM, TWO_PERMUTATIONS = Argument("perm", PERMUTATION), [Argument("left", PERMUTATION), Argument("right", PERMUTATION, "-")]
+FACTORS = [(f"factor {i}", PARTITION, "-" if i > 1 else "") for i in range(1, 10)]
+ROWS, OUTER, INNER, TARGET = ("rows", NUMBER, ""), ("outer", PARTITION, ""), ("inner", PARTITION, "/"), ("target", EXPRESSION, "")
+PERM, TWO_PERMUTATIONS = ("perm", PERMUTATION, ""), [("left", PERMUTATION, ""), ("right", PERMUTATION, "-")]
 COMMANDS: Dict[str, List[Argument]] = {
     "mult": FACTORS,
-    "quantum": [ROWS, Argument("cols", NUMBER), *FACTORS],
-    "fusion": [ROWS, Argument("level", NUMBER), *FACTORS],
+    "quantum": [ROWS, ("cols", NUMBER, ""), *FACTORS],
+    "fusion": [ROWS, ("level", NUMBER, ""), *FACTORS],
     "skew": [OUTER, INNER],
-    "coef": [OUTER, Argument("left", PARTITION, "-"), Argument("right", PARTITION, "-")],
-    "coprod": [Argument("shape", PARTITION)],
-    "tab": [OUTER, INNER, Argument("after", TABLEAU, "-from")],
-    "rect": [OUTER, INNER, Argument("tableau", TABLEAU, "-")],
+    "coef": [OUTER, ("left", PARTITION, "-"), ("right", PARTITION, "-")],
+    "coprod": [("shape", PARTITION, "")],
+    "tab": [OUTER, INNER, ("after", TABLEAU, "-from")],
+    "rect": [OUTER, INNER, ("tableau", TABLEAU, "-")],
     "schubert": [PERM],
     "stanley": [PERM],
     "growth": [PERM],
     "schubmult": TWO_PERMUTATIONS,
     "dschubmult": TWO_PERMUTATIONS,
-    "rsk": [Argument("letters", LETTERS)],
-    "unrsk": [Argument("insertion", TABLEAU), Argument("recording", TABLEAU, "-")],
-    "expand": [TARGET, Argument("expression", EXPRESSION)],
-    "plethysm": [TARGET, Argument("outer", EXPRESSION), Argument("inner", EXPRESSION)],
+    "rsk": [("letters", LETTERS, "")],
+    "unrsk": [("insertion", TABLEAU, ""), ("recording", TABLEAU, "-")],
+    "expand": [TARGET, ("expression", EXPRESSION, "")],
+    "plethysm": [TARGET, ("outer", EXPRESSION, ""), ("inner", EXPRESSION, "")],
 }
 
 
-# (which are unpacked faster)
-PLAIN: Dict[str, List[Any]] = {name: [tuple(it) for it in them] for name, them in COMMANDS.items()}
+def typed(words: Sequence[Any]) -> str:
+    """Words and numbers as they are typed. (One format is quicker than a text of each.)"""
+    return ("%s " * len(words) % tuple(words))[:-1]
 
 
-@lru_cache(1 << 12)
-def typed(values: Numbers) -> str:
-    """The words of a list: `3 2 1` of (3, 2, 1). (The same lists come again and again.)"""
-    return repr(values)[1:-1].replace(",", "")
-
-
-def words_for(command: str, values: Iterable[Any], rows: Any = None) -> List[str]:
-    """The words of a call with these arguments, and with this number of variables; those of a list are in one piece."""
-    them, inner = [command] if rows is None else [command, "-r", str(whole(rows, "rows"))], cast(Numbers, ())
-    for (name, sort, sign), value in zip(PLAIN[command], values):
+def words_for(command: str, values: Iterable[Any], rows: Any = None) -> List[Any]:
+    """The words and numbers of a call with these arguments, and with this number of variables; those of a tableau are in one piece."""
+    them: List[Any] = [command] if rows is None else [command, "-r", whole(rows, "rows")]
+    inner: Numbers = ()
+    for (name, sort, sign), value in zip(COMMANDS[command], values):
         if sign:
             them.append(sign)
         if sort == PARTITION:
-            parts = partition(value, name)
-            text, inner = typed(parts), parts if sign == "/" else inner
+            # (the last one before a tableau is the inner one of its shape)
+            inner = partition(value, name)
+            them += inner
         elif sort == NUMBER:
-            text = str(whole(value, name))
+            them.append(whole(value, name))
         else:
-            text = spoken(value, name, inner) if sort == TABLEAU else typed(numbers(value, name))
-        if text:
-            them.append(text)
+            them += (spoken(value, name, inner),) if sort == TABLEAU else numbers(value, name)
     return them
 
 
@@ -84,26 +70,26 @@ def words_of(line: str) -> List[str]:
     return [it for it in line.rstrip("\r\n").replace("\t", " ").split(" ") if it]
 
 
-def place_of(words: List[str], word: int) -> Tuple[Argument, int]:
-    """The argument that a word of the line is in, and the word at which it begins. (Of a word that is in none it is the command.)"""
-    at, found, start = 1, Argument(words[0], EXPRESSION), 0
+def place_of(words: List[str], word: int) -> Tuple[str, int, int]:
+    """The name of the argument that a word of the line is in, what that is, and the word at which it begins. (Of a word that is in none it is the command.)"""
+    at, found = 1, (words[0], EXPRESSION, 0)
     while words[at : at + 1] in (["-r"], ["-m"]):
         if words[at] == "-r" and word == at + 1:
-            return ROWS, word
+            return "rows", NUMBER, word
         at += 2 if words[at] == "-r" else 1
-    for argument in COMMANDS.get(words[0], []):
-        if argument.sign:
-            signs = [i for i, it in enumerate(words[: word + 1]) if i >= at and it == argument.sign]
+    for name, sort, sign in COMMANDS.get(words[0], []):
+        if sign:
+            signs = [i for i, it in enumerate(words[: word + 1]) if i >= at and it == sign]
             if not signs:
                 break
             at = signs[0] + 1
-        if argument.sort not in (NUMBER, EXPRESSION):
-            found, start = argument, at
+        if sort not in (NUMBER, EXPRESSION):
+            found = name, sort, at
         elif at == word:
-            return argument, at
+            return name, sort, at
         else:
             at += 1
-    return found, start
+    return found
 
 
 # Why a word of an argument is refused that is of the right form, by the kind of the refusal and by what the argument is.
@@ -125,16 +111,16 @@ def why(kind: str, words: List[str], word: int, byte: int) -> str:
     """Why the words were refused at this place."""
     if word == 0:
         return "a line has at most 4,096 bytes" if kind == "Range" else "there is no such command" if words else "there is no command"
-    argument, start = place_of(words, word)
+    name, sort, start = place_of(words, word)
     if kind == "Literal":
         return "a number is at most 2^127 - 1"
     if kind == "Shape" and words[word : word + 1] == ["-from"]:
         return "the tableau after -from is not in the list"
     if kind != "Syntax":
-        return WHY[kind, argument.sort].format(name=argument.name, number=word - start + 1)
+        return WHY[kind, sort].format(name=name, number=word - start + 1)
     if word == len(words):
-        return "a product has two to eight factors" if argument in FACTORS and "-" not in words else "the command ends too early"
-    if argument.sort != EXPRESSION or argument is TARGET or not start:
+        return "a product has two to eight factors" if name[:6] == "factor" and "-" not in words else "the command ends too early"
+    if sort != EXPRESSION or name == "target" or not start:
         return "this word is not allowed here"
     return "the expression cannot continue like this" if words[word][byte:] else "the expression ends too early"
 
@@ -145,8 +131,7 @@ def shown(words: List[str], word: int) -> str:
     marked = [it if len(it) <= 60 else f"{it[:28]}..{it[-28:]}" for it in marked]
     if len(" ".join(marked)) <= 160:
         return " ".join(marked)
-    first, last = max(1, word - 8), word + 9
-    return " ".join([*marked[:1], *[".."] * (first > 1), *marked[first:last], *[".."] * (last < len(marked))])
+    return " ".join([*marked[:1], *[".."] * (word > 9), *marked[max(1, word - 8) : word + 9], *[".."] * (word + 9 < len(marked))])
 
 
 # The classes of refusals, by the names that `calc` prints.

@@ -1,4 +1,4 @@
-"""Parents and their elements. A parent has its labels and its product, which is asked of `calc`; an element is a parent and a list of terms."""
+"""Parents and their elements. A parent has its labels and its product, which is asked of `calc`; an element is a parent and terms, also as one of Sage."""
 from __future__ import annotations
 
 import json
@@ -16,10 +16,11 @@ from typing import Any, Callable, Dict, Generic, ItemsView, Iterable, Iterator, 
 from ._arguments import Coefficient, Fixed, Label, Numbers, integer, ratio, whole
 from ._commands import typed
 from ._kinds import DOUBLE, MONOMIALS, PAIRS, PERMUTATIONS, QUANTUM, SYMMETRIC, Kind, Number, added, atom, term
-from ._sage import basis_of, element_of, forbid_as_coefficient, is_element, is_same, refuse_residue
 
 # The bases of the ring of symmetric functions, between which elements are converted.
 BASES = ("s", "p", "h", "e", "m")
+# Sage's names of them, and the number of variables of its ring for Schubert polynomials of `calc`, which have at most so many.
+OF_SAGE, VARIABLES = dict(zip(("Schur", "powersum", "homogeneous", "elementary", "monomial"), BASES)), 16
 # What an element can be multiplied by: exact numbers of any package.
 Scalar = Union[SupportsIndex, Rational]
 # A list of more terms is shown by its first and last ones in a notebook.
@@ -71,16 +72,13 @@ class Home:
         return self.known.get(key) or self.known.setdefault(key, Parent(self, *key))
 
 
-@lru_cache(None)
-def home_of(arguments: Any) -> Home:
-    """The home of what was pickled, and of the answers of a batch."""
-    return Home(arguments)
+# The home of what was pickled, and of the answers of a batch.
+home_of = lru_cache(None)(Home)
 
 
 class Parent(Fixed, Generic[Label]):
-    """Where elements live. Its elements are made of a label, as in `calc.s[2, 1]`, of a number, of a mapping from labels to coefficients, and of
-    elements of other parents if that is exact: of a basis of symmetric functions in another one, of either in K variables, and of the quantum
-    cohomology of a Grassmannian in its cohomology, where q is 0. All else is a TypeError that names both.
+    """Where elements live. Its elements are made of a label, as in `calc.s[2, 1]`, of a number, of a mapping from labels to coefficients, and of elements
+    of other parents if that is exact: as python/README.md says, and else a TypeError that names both.
     >>> s, p = Calculator().s, Calculator().p
     >>> s[2, 1] * s[1], s([2, 1]) == s[2, 1], s(3) == 3 * s[()]
     (Expansion(calc.s, {(3, 1): 1, (2, 2): 1, (2, 1, 1): 1}), True, True)
@@ -192,47 +190,43 @@ class Parent(Fixed, Generic[Label]):
         """The product of the terms of two elements."""
         if self.name in ("p", "h", "e", "monomials"):
             # (by definition; all else is asked)
-            table: Dict[Any, Number] = {}
-            for a, c in left.items():
-                for b, d in right.items():
-                    label = added(a, b) if self.name == "monomials" else tuple(sorted(a + b, reverse=True))
-                    table[label] = table.get(label, 0) + c * d
-            return table
+            factors = [((a, b), c * d) for a, c in left.items() for b, d in right.items()]
+            return summed((added(a, b) if self.name == "monomials" else tuple(sorted(a + b, reverse=True)), c) for (a, b), c in factors)
         if not self.command:
             raise TypeError(f"{self} has no product here")
-        return self._summed(self._weights(left, right))
+        return summed(self._asked(left, right))
 
-    def _weights(self, left: Dict[Any, Number], right: Dict[Any, Number]) -> Dict[Tuple[Numbers, Numbers], Dict[Any, Number]]:
-        """Which products of basis elements are asked for, and with which coefficients they are added, by what is beside them."""
-        found: Dict[Tuple[Numbers, Numbers], Dict[Any, Number]] = {}
-        rights = [(*self.kind.apart(b), d) for b, d in right.items()]
-        for a, c in left.items():
-            first, before = self.kind.apart(a)
+    def _asked(self, left: Dict[Any, Number], right: Dict[Any, Number]) -> Iterator[Tuple[Any, Number]]:
+        """The terms of the products of basis elements, each of which is asked once; with them is multiplied what is beside their factors. Lines are
+        counted before they are read, since most of them come again and again."""
+        words, apart, in_m = self.command, self.kind.apart, self.name == "m"
+        rights = [(*apart(b), d) for b, d in right.items()]
+        weights: Dict[Tuple[Any, Any], Number] = {}
+        for (first, before), c in ((apart(a), c) for a, c in left.items()):
             for second, behind, d in rights:
                 beside = added(before, behind) if isinstance(before, tuple) else before + behind
-                of_pair = found.setdefault((first, second) if first <= second else (second, first), {})
-                of_pair[beside] = of_pair.get(beside, 0) + c * d
-        return found
-
-    def _summed(self, weights: Dict[Tuple[Numbers, Numbers], Dict[Any, Number]]) -> Dict[Any, Number]:
-        """The sum of products. Their lines are counted before they are read, since most of them come again and again."""
-        words, in_m = self.command, self.name == "m"
-        lines = [f"{words} {atom('m', a)}*{atom('m', b)}" if in_m else f"{words} {typed(a)} - {typed(b)}" for a, b in weights]
-        texts = self.home()._desk(None).texts(lines)
-        together: Dict[Any, List[str]] = {}
-        for text, of_pair in zip(texts, weights.values()):
-            for it in of_pair.items():
-                together.setdefault(it, []).append(text)
-        table: Dict[Any, Number] = {}
+                key = (first, second) if first <= second else (second, first), beside
+                weights[key] = weights.get(key, 0) + c * d
+        pairs = list(dict.fromkeys(pair for pair, _ in weights))
+        lines = [f"{words} {atom('m', a)}*{atom('m', b)}" if in_m else typed((words, *a, "-", *b)) for a, b in pairs]
+        texts, together = dict(zip(pairs, self.home()._desk(None).texts(lines))), cast("Dict[Any, List[str]]", {})
+        for (pair, beside), weight in weights.items():
+            together.setdefault((beside, weight), []).append(texts[pair])
         for (beside, weight), them in together.items():
             for line, count in Counter("".join(them).splitlines()).items():
                 if line != "0":
                     label, c = term(line)
                     if self.name == "cohomology":
                         c, label = 0 if label[0] else c, label[1]
-                    label = self.kind.times(label, beside) if beside else label
-                    table[label] = table.get(label, 0) + c * weight * count
-        return table
+                    yield self.kind.times(label, beside) if beside else label, c * weight * count
+
+
+def summed(pairs: Iterable[Tuple[Any, Any]], start: Any = ()) -> Dict[Any, Any]:
+    """The sums of the numbers at each label."""
+    table = dict(start)
+    for label, c in pairs:
+        table[label] = table.get(label, 0) + c
+    return table
 
 
 def parent_of(home: Home, line: List[Any]) -> Parent[Any]:
@@ -249,6 +243,18 @@ ANSWERS = {"mult": "s", "skew": "s", "stanley": "s", "coprod": "tensor_square", 
 ANSWERS.update(quantum="quantum_ring", fusion="fusion_ring", expand="", plethysm="")
 
 
+def is_element(value: Any) -> bool:
+    """Whether a value is an element of one of Sage's parents; there is none where Sage is not loaded."""
+    structure = sys.modules.get("sage.structure.element")
+    return structure is not None and isinstance(value, structure.Element)
+
+
+def basis_of(value: Any) -> Optional[str]:
+    """The basis that an element is in, if it is one of Sage's symmetric functions in a basis of `calc`."""
+    name = getattr(value.parent(), "basis_name", None) if is_element(value) else None
+    return OF_SAGE.get(name()) if callable(name) else None
+
+
 def exact(value: Any) -> Number:
     """A coefficient of any exact type: an `int` if it is whole."""
     if type(value) is int:
@@ -260,12 +266,12 @@ def exact(value: Any) -> Number:
 
 
 def _scalar(value: Any) -> Optional[Number]:
-    """The exact number that a value is; nothing, if it is a column of numpy's or pandas', or an element of Sage, which does the operation."""
+    """The exact number that a value is; nothing, if it is numpy, pandas or Sage that does the operation, and has a number that is exact."""
     if ratio(value):
         return exact(value)
-    if is_element(value):
-        refuse_residue(value)
-    elif not hasattr(type(value), "__array_ufunc__"):
+    base = getattr(value.parent(), "base_ring", None) if is_element(value) else None
+    is_exact = getattr(base(), "characteristic", int)() == 0 if callable(base) else is_element(value) or hasattr(type(value), "__array_ufunc__")
+    if not is_exact:
         raise TypeError(f"{value!r} is not an exact number")
     return None
 
@@ -273,20 +279,17 @@ def _scalar(value: Any) -> Optional[Number]:
 class Expansion(Fixed, Generic[Label, Coefficient]):
     """An element of a parent: labels and their coefficients, in the order in which `calc` prints them. It does not change.
 
-    A label is a tuple of numbers: a partition, a permutation, or the exponents of a monomial. In a coproduct it is a pair of partitions, in
-    a quantum product the exponent of q and a partition, in a product of double Schubert polynomials a permutation and the exponents of y. The
-    coefficient of a label that is not in the list is 0; anything that is no label is an error, also an integer, which could be a place.
+    A label is a tuple of numbers; in a coproduct a pair of partitions, in a quantum product the exponent of q and a partition, in a product of double
+    Schubert polynomials a permutation and the exponents of y. One that is not in the list has the coefficient 0; what is no label is an error.
     >>> s = Calculator().s
     >>> a = Expansion(s, {(2,): 1, (1, 1): 1})
     >>> a, a == s[1] ** 2, list(a)
     (Expansion(calc.s, {(2,): 1, (1, 1): 1}), True, [((2,), 1), ((1, 1), 1)])
-    >>> a[[2]], a[1, 1, 0], a.coefficient([3])
-    (1, 1, 0)
     >>> print(2 * a - s[2] / 3 + 1)
     5/3*s[2]+2*s[1,1]+s[]
 
-    Elements of one parent are added, multiplied and compared, and those of two bases of symmetric functions are added and multiplied in the basis
-    of the left one. A number stands for its multiple of 1. Between other parents there is no operation. `==` takes a mapping for its terms."""
+    Elements of one parent are added, multiplied and compared, also with numbers and mappings, and those of two bases added and multiplied in the left
+    one. Between other parents there is no operation: it is a TypeError."""
 
     __slots__ = ("parent", "_terms", "__weakref__")
 
@@ -385,13 +388,21 @@ class Expansion(Fixed, Generic[Label, Coefficient]):
                 return self._terms == self.parent.given(other.items())
             return False
         if ratio(other):
-            forbid_as_coefficient(other)
+            # (Sage makes an expansion the coefficient of an element that is multiplied by it and has no ring in common with it. Before it does so it
+            # compares it with Python's 1, which is not what somebody types in Sage; there is no other place to say no.)
+            if type(other) is int and other == 1 and "sage.data_structures.blas_dict" in sys.modules:
+                raise TypeError("an expansion is compared with 1, or multiplied by an element of Sage over another ring: use to_sage(ring)")
             return self._terms == self.parent(other)._terms
         numpy: Any = sys.modules.get("numpy")
         if numpy and isinstance(other, numpy.ndarray):
             # (numpy would say False if its own comparison is an error)
             return numpy.array([self == it for it in other.flat], dtype=bool).reshape(other.shape)
-        return is_same(self, other) if is_element(other) else NotImplemented
+        if not is_element(other):
+            return NotImplemented
+        # (as Sage compares elements: of one function also in two bases)
+        with suppress(AttributeError, TypeError, ValueError):
+            return bool(self.to_sage(cast(Any, other).parent().base_ring() if self.parent.name in BASES else None) == other)
+        return False
 
     def __ne__(self, other: object) -> Any:
         same = self == other
@@ -408,18 +419,15 @@ class Expansion(Fixed, Generic[Label, Coefficient]):
 
     def _other(self, other: Any, operation: str) -> Any:
         """The other one of two that are added or multiplied as an element of this one's parent; nothing, if it is to be asked."""
-        if isinstance(other, Expansion):
-            if self.parent != other.parent and not self._is_in_basis(other):
-                raise TypeError(f"{self.parent} {operation} {other.parent}: these are two rings")
-            return self.parent(other)
-        return None if _scalar(other) is None else self.parent(other)
+        if isinstance(other, Expansion) and self.parent != other.parent and not self._is_in_basis(other):
+            raise TypeError(f"{self.parent} {operation} {other.parent}: these are two rings")
+        return self.parent(other) if isinstance(other, Expansion) or _scalar(other) is not None else None
 
     def __add__(self, other: Union[Expansion[Any, Any], Scalar]) -> Expansion[Label, Coefficient]:
-        value, terms = self._other(other, "+"), dict(self._terms)
+        value = self._other(other, "+")
         if value is None:
             return NotImplemented
-        for label, c in value:
-            terms[label] = terms.get(label, 0) + c
+        terms = summed(value, self._terms)
         if len(terms) > len(self._terms):
             return Expansion._ordered(terms, self.parent)
         # (of the same labels the order is known)
@@ -516,7 +524,28 @@ class Expansion(Fixed, Generic[Label, Coefficient]):
         """The element of Sage: of `SymmetricFunctions(QQ)`, of its tensor square for a coproduct, of `SymmetricFunctions` over QQ[q] for a
         quantum product, of a polynomial ring in x0, x1, .. for monomials, of `SchubertPolynomialRing(ZZ)` for permutations. For other parents
         it is a TypeError. `ring` is the ring of coefficients if it is not QQ; it is an error if a coefficient is not in it."""
-        return element_of(self, ring)
+        from sage import all as sage  # type: ignore
+
+        ring, name = sage.QQ if ring is None else ring, self.parent.name
+        scalars: Dict[Any, Any] = {label: ring(sage.QQ((int(c.numerator), int(c.denominator)))) for label, c in self}
+        functions = sage.SymmetricFunctions(ring)
+        s = functions.s()
+        if name in BASES:
+            return getattr(functions, name)().sum_of_terms((sage.Partition(list(label)), c) for label, c in scalars.items())
+        if name == "tensor_square":
+            return sum((c * s(list(a)).tensor(s(list(b))) for (a, b), c in scalars.items()), s.tensor_square().zero())
+        if name == "quantum_ring":
+            over = sage.PolynomialRing(ring, "q")
+            table = summed((label, over(c) * over.gen() ** power) for (power, label), c in scalars.items())
+            return sage.SymmetricFunctions(over).s().sum_of_terms((sage.Partition(list(label)), c) for label, c in table.items())
+        if name == "monomials":
+            count = max([VARIABLES, *map(len, scalars)])
+            x = sage.PolynomialRing(ring, [f"x{i}" for i in range(count)]).gens()
+            return sum((c * sage.prod(v**e for v, e in zip(x, label)) for label, c in scalars.items()), x[0].parent().zero())
+        if name == "X":
+            schubert = sage.SchubertPolynomialRing(sage.ZZ if ring is sage.QQ else ring)
+            return sum((schubert.base_ring()(c) * schubert(list(label)) for label, c in scalars.items()), schubert.zero())
+        raise TypeError(f"Sage has no ring for elements of {self.parent}")
 
     # (it takes part in an operation with one of Sage's elements, whose answer is Sage's)
     _sage_ = to_sage

@@ -176,7 +176,7 @@ class _Names(NamedTuple):
             raise self.refused(word, "is an option, and a name of the family: take another name")
         if not re.search(r"[^\W\d_]", word) or word in ("-m", "-r", "-from"):
             return word
-        if any(it.sort == EXPRESSION for it in COMMANDS[self.command]):
+        if any(sort == EXPRESSION for _, sort, _ in COMMANDS[self.command]):
             return self.expression(word)
         inner = re.fullmatch(r"\((.*)\)", word)
         if not inner and "-" in word:

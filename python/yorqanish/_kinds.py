@@ -35,10 +35,9 @@ def listed(label: str) -> Numbers:
     return tuple(map(int, label[1:-1].split(","))) if label != "()" else ()
 
 
-# (such terms come again and again)
 @lru_cache(1 << 16)
 def term(line: str) -> Tuple[Any, Number]:
-    """The label and the coefficient of a printed term, as `2  (2,1)`, `2  (2,1) (1)` or `2  q^1  (2,1)`."""
+    """The label and the coefficient of a printed term, as `2  (2,1)`, `2  (2,1) (1)` or `2  q^1  (2,1)`. (They come again and again.)"""
     coefficient, *words = line.split()
     label = tuple(int(it[2:]) if it[:2] == "q^" else listed(it) for it in words)
     return label[0] if len(label) == 1 else label, Fraction(coefficient) if "/" in coefficient else int(coefficient)

@@ -11,7 +11,7 @@ from contextlib import suppress
 from functools import partial
 from itertools import islice
 from queue import SimpleQueue
-from typing import Any, Callable, Deque, Dict, Generator, Generic, Iterable, Iterator, List, NamedTuple, Optional, Tuple, TypeVar
+from typing import Any, Callable, Deque, Dict, Generator, Generic, Iterable, Iterator, List, NamedTuple, Optional, Tuple, TypeVar, Union
 
 from ._arguments import text_of
 from ._commands import Refusal, inner_of, words_of
@@ -110,8 +110,7 @@ class Desk(NamedTuple):
             # (or each line by itself, to see whose it is)
             with suppress(MemoryError, Ended):
                 texts = self.way.blocks([sent(it) or NO_COMMAND for it in lines], most)
-                refusals = (Refusal.of(text, line) if text[:1] == "!" else None for line, text in zip(lines, texts))
-                return [Block(line, "" if refusal else text, refusal, self.arguments) for line, text, refusal in zip(lines, texts, refusals)]
+                return [Block(it, *(("", Refusal.of(text, it)) if text[:1] == "!" else (text, None)), self.arguments) for it, text in zip(lines, texts)]
         return list(map(self.one, lines))
 
 
@@ -120,14 +119,23 @@ Line = Tuple[int, str]
 Outcome = Optional[Block]
 
 
-class Source:
-    """Lines as they are read. What is raised where they come from is kept until those before it are answered."""
+class Lanes:
+    """Lines in flight. Each of some threads, with a process to itself, takes the first lines that wait, as many at a time as it did in the time of a
+    window. They read nothing that is the user's: that does who asks for the outcomes, who is also the only one to work if there is one process."""
 
-    def __init__(self, lines: Iterable[str]) -> None:
-        self._lines, self.is_at_end = iter(lines), False
-        self.error: Optional[Exception] = None
+    # What is raised where the lines come from, which is kept until those before it are answered.
+    _error: Optional[Exception] = None
+    _is_at_end = _is_ended = False
 
-    def take(self, count: int) -> Iterator[str]:
+    def __init__(self, desk: Desk, count: int, lines: Iterable[str]) -> None:
+        self._lines, self._desk, self._sizes, self._is_only, self._late = iter(lines), desk, [1] * count, count == 1, LATE
+        # (the lines of windows that were given up, and all others; what a thread that finds none waits for)
+        self._alone: Deque[Line] = deque()
+        self._waiting: Deque[Line] = deque()
+        self._calls: SimpleQueue[None] = SimpleQueue()
+        self._done: SimpleQueue[Any] = SimpleQueue()
+
+    def _read(self, count: int) -> Iterator[str]:
         """The next lines: at most so many, and fewer if they come slowly; none at the end."""
         began, left = time.monotonic(), count
         try:
@@ -139,21 +147,8 @@ class Source:
                 if time.monotonic() - began > READING:
                     return
         except Exception as error:
-            self.error = error
-        self.is_at_end = left > 0
-
-
-class Lanes:
-    """Lines in flight. Each of some threads, with a process to itself, takes the first lines that wait, as many at a time as it did in the time of a
-    window. They read nothing that is the user's: that does who asks for the outcomes, who is also the only one to work if there is one process."""
-
-    def __init__(self, desk: Desk, count: int) -> None:
-        self._desk, self._sizes, self._is_only, self._is_ended, self._late = desk, [1] * count, count == 1, False, LATE
-        # (the lines of windows that were given up, and all others; what a thread that finds none waits for)
-        self._alone: Deque[Line] = deque()
-        self._waiting: Deque[Line] = deque()
-        self._calls: SimpleQueue[None] = SimpleQueue()
-        self._done: SimpleQueue[Any] = SimpleQueue()
+            self._error = error
+        self._is_at_end = left > 0
 
     def _call(self) -> None:
         """Wakes the threads that wait."""
@@ -197,7 +192,7 @@ class Lanes:
         count = 2 * len(window) if self._desk.seconds is None and (self._is_only or self._desk.way.can_be_stopped) else 1
         return max(1, min(count, int(len(window) * WINDOW / max(time.monotonic() - began, 1e-9)), MOST_IN_WINDOW))
 
-    def outcomes(self, source: Source) -> Iterator[Outcome]:
+    def outcomes(self) -> Iterator[Outcome]:
         """The outcomes in the order of the lines."""
         kept: Dict[int, Outcome] = {}
         read = given = at = size = 0
@@ -210,9 +205,9 @@ class Lanes:
                     size, at = size - (len(block.text) if block else 0), at + 1
                     yield block
                 wanted = min(MOST_AHEAD - (read - at), (1 if self._is_only else 2) * sum(self._sizes) - given) if size < MOST_KEPT else 0
-                is_reading = wanted > 0 and not source.is_at_end and not (self._is_only and given)
+                is_reading = wanted > 0 and not self._is_at_end and not (self._is_only and given)
                 if is_reading:
-                    for line in source.take(wanted):
+                    for line in self._read(wanted):
                         if sent(line) is None:
                             kept[read] = None
                         else:
@@ -230,28 +225,13 @@ class Lanes:
                         raise done
                     kept.update(done)
                     given, size = given - len(done), size + sum(len(it.text) for _, it in done)
-            if source.error:
-                raise source.error
+            if self._error:
+                raise self._error
         finally:
             self._is_ended = True
             if not self._is_only:
                 self._desk.way.close()
             self._call()
-
-
-def with_bar(outcomes: Iterable[Outcome], total: Optional[int]) -> Iterator[Outcome]:
-    """Outcomes, and a bar of their progress: tqdm's, or else a line on a terminal."""
-    try:
-        from tqdm import tqdm  # type: ignore
-    except ImportError:
-        said = 0.0
-        for done, outcome in enumerate(outcomes, 1):
-            if sys.stderr.isatty() and (done == total or time.monotonic() - said > 0.1):
-                said = time.monotonic()
-                print(f"\r{done} lines{'' if total is None else f' of {total}'}", end="\n" if done == total else "", file=sys.stderr, flush=True)
-            yield outcome
-    else:
-        yield from tqdm(outcomes, total=total, unit=" lines")
 
 
 def own(answers: Iterable[Any], check: Callable[[], None]) -> Iterator[Any]:
@@ -265,13 +245,22 @@ def own(answers: Iterable[Any], check: Callable[[], None]) -> Iterator[Any]:
             raise NoCalculator("this iterator belongs to the process that was forked, and not to its copy")
 
 
-def blocks(outcomes: Iterable[Outcome], progress: Optional[Callable[[int], None]]) -> Iterator[Block]:
-    """The blocks among the outcomes. `progress` is told how many lines are done."""
+def blocks(outcomes: Iterable[Outcome], progress: Union[bool, Callable[[int], None]], total: Optional[int]) -> Iterator[Block]:
+    """The blocks among the outcomes. `progress` is told how many lines are done; True is a bar: tqdm's, or else a line on a terminal."""
+    tell, is_line, said = None if isinstance(progress, bool) else progress, progress is True, 0.0
+    if is_line:
+        with suppress(ImportError):
+            from tqdm import tqdm  # type: ignore
+
+            outcomes, is_line = tqdm(outcomes, total=total, unit=" lines"), False
     for done, outcome in enumerate(outcomes, 1):
+        if is_line and sys.stderr.isatty() and (done == total or time.monotonic() - said > 0.1):
+            said = time.monotonic()
+            print(f"\r{done} lines{'' if total is None else f' of {total}'}", end="\n" if done == total else "", file=sys.stderr, flush=True)
         if outcome:
             yield outcome
-        if progress:
-            progress(done)
+        if tell:
+            tell(done)
 
 
 Result = TypeVar("Result")

@@ -21,11 +21,9 @@ from typing import Any, Callable, ContextManager, Dict, Iterable, Iterator, List
 
 from ._ways import BREAK, END, ENDED, LAST, NO_MEMORY, PATIENCE, QUESTIONS, Ended, NoCalculator, Way, not_calc, spawn
 
-# The processes that this one has started, each with whoever reads from it. As its standard error a process has the writing end of the pipe that ties it
-# to this one. A process made by fork closes its copies of their pipes and forgets them.
+# The processes that this one has started, each with whoever reads from it. (Their standard error is the writing end of the pipe that ties them to this one.)
 STARTED: Dict[subprocess.Popen[bytes], weakref.ref[Batch]] = {}
-# What a thread of this package does, which no signal disturbs: to start and to end processes, and to wait for them. (An interrupt could leave a process
-# that nobody knows, or hold a lock for ever.) To ask for it is one step, wherever the collector does that: a reader that is gone leaves its reference.
+# What a thread does that no signal disturbs. To ask for it is one step, wherever the collector does that: a reader that is gone leaves its reference.
 ASKED: SimpleQueue[Any] = SimpleQueue()
 # The threads that do it: at most one, but for moments.
 SERVING: List[int] = []
@@ -73,8 +71,7 @@ class File:
 
 def tie(process: subprocess.Popen[bytes], watched: int) -> None:
     """Makes the system kill the group of the process as soon as the writing end of this pipe is closed, which only this process has: when this process
-    ends, even by SIGKILL. Nothing is ever written there. (The signal that Linux sends at a parent's death comes at the death of the thread
-    that started the process, which may end before the Calculator.)"""
+    ends, even by SIGKILL. (The signal of Linux at a parent's death comes at the death of the thread that started the process.)"""
     # (without it the process ends when it next reads or writes)
     with suppress(OSError):
         if sys.platform == "linux":
@@ -87,13 +84,12 @@ def start(path: str, file: Optional[File], reader: weakref.ref[Batch]) -> subpro
     """Starts the program, out of reach of the terminal's Ctrl-C: who is interrupted ends it."""
     try:
         with STARTS, over_two():
-            place = file.place() if file else path
             watched, kept = map(FileIO, os.pipe(), "rw")
-            # (the reading end stays open in the program, and in it alone)
-            how: Dict[str, Any] = {"stderr": subprocess.DEVNULL, "pass_fds": [watched.fileno()], **GROUP}
             with watched, ExitStack() as on_error:
                 on_error.callback(kept.close)
-                process = subprocess.Popen(["calc", "batch"], executable=place, bufsize=0, stdin=subprocess.PIPE, stdout=subprocess.PIPE, **how)
+                # (the reading end stays open in the program, and in it alone)
+                how: Dict[str, Any] = {"executable": file.place() if file else path, "stderr": subprocess.DEVNULL, "pass_fds": [watched.fileno()], **GROUP}
+                process = subprocess.Popen(["calc", "batch"], bufsize=0, stdin=subprocess.PIPE, stdout=subprocess.PIPE, **how)
                 tie(process, watched.fileno())
                 on_error.pop_all()
             process.stderr, STARTED[process] = kept, reader
@@ -140,12 +136,6 @@ def end_all(is_ending: bool = False) -> None:
         end(process)
 
 
-def sweep() -> bool:
-    """Ends the processes whose readers are gone or done; whether one of them has yet to go."""
-    over = [process for process, reader in list(STARTED.items()) if getattr(reader(), "is_done", True)]
-    return not all(list(map(end, over)))
-
-
 def serve() -> None:
     """Has the thread that does what is asked for. (It is asked before, so that one that is about to end is not waited for in vain.)"""
     if not SERVING and not IS_ENDING:
@@ -158,13 +148,13 @@ def serve() -> None:
 
 
 def work() -> None:
-    """Does what is asked for, one after the other, until that is nothing. Meanwhile the processes that are over are ended."""
+    """Does what is asked for, one after the other, until that is nothing. Meanwhile the processes are ended whose readers are gone or done."""
     SERVING.append(_thread.get_ident())
     is_wanted = True
     try:
-        while (is_going := sweep()) or is_wanted:
+        while not all(gone := [end(it) for it, reader in list(STARTED.items()) if getattr(reader(), "is_done", True)]) or is_wanted:
             with suppress(Empty):
-                asked = ASKED.get(timeout=GOING if is_going else None)
+                asked = ASKED.get(timeout=None if all(gone) else GOING)
                 is_wanted = is_wanted and asked is not None
                 if asked:
                     asked()
@@ -175,9 +165,8 @@ def work() -> None:
 
 
 def done(task: Callable[..., Any], *arguments: Any) -> Any:
-    """What a task answers in the thread that no signal disturbs."""
+    """What a task answers in the thread that no signal disturbs; also if the collector calls a `__del__` in that."""
     if IS_ENDING or _thread.get_ident() in SERVING:
-        # (also if the collector calls a `__del__` there)
         return task(*arguments)
     answer: SimpleQueue[Any] = SimpleQueue()
 
@@ -228,10 +217,6 @@ def forget_all() -> None:
 
 atexit.register(end_all, True)
 os.register_at_fork(before=pause, after_in_parent=lambda: STARTS.release(), after_in_child=forget_all)
-
-
-def deadline_in(seconds: Optional[float]) -> Optional[float]:
-    return None if seconds is None else time.monotonic() + seconds
 
 
 def input_of(lines: Iterable[bytes]) -> memoryview:
@@ -300,7 +285,13 @@ class Batch(ContextManager["Batch"]):
         if self._owner != os.getpid():
             raise NoCalculator("this answer is read by the process that was forked, and not by its copy")
         if not came:
-            raise self._gone()
+            if self.user:
+                self.user.check()
+            try:
+                status = done(self.process.wait, 1)
+            except subprocess.TimeoutExpired:
+                raise Ended(f"{self.path} has closed its output") from None
+            raise MemoryError("calc was refused memory") if status == NO_MEMORY else Ended(f"{self.path} ended with status {status}")
         return came, data
 
     def _written(self, data: memoryview) -> memoryview:
@@ -312,19 +303,9 @@ class Batch(ContextManager["Batch"]):
         except BrokenPipeError:
             return data[:0]
 
-    def _gone(self) -> Exception:
-        """Why there is no more to be read."""
-        if self.user:
-            self.user.check()
-        try:
-            status = done(self.process.wait, 1)
-        except subprocess.TimeoutExpired:
-            return Ended(f"{self.path} has closed its output")
-        return MemoryError("calc was refused memory") if status == NO_MEMORY else Ended(f"{self.path} ended with status {status}")
-
     def exchange(self, lines: Sequence[bytes], seconds: Optional[float], known: bytes = b"") -> List[str]:
         """The blocks of lines. What is known comes first of all, without a break before it; if something else comes, it is not waited for."""
-        until = deadline_in(seconds)
+        until = None if seconds is None else time.monotonic() + seconds
         came, data = self._read(input_of(lines), until)
         got = bytearray(BREAK + came if known else came)
         while not (got.endswith(ENDED) and got.count(BREAK) > len(lines)):
@@ -342,7 +323,7 @@ class Batch(ContextManager["Batch"]):
         # (one break is before the answer, and one after it)
         breaks, rest, last, data = 0, b"", b"", input_of([line])
         while breaks < 2 or len(last + rest) < len(END):
-            came, data = self._read(data, deadline_in(seconds))
+            came, data = self._read(data, None if seconds is None else time.monotonic() + seconds)
             *lines, rest = (rest + came).split(b"\n")
             for it in lines:
                 if it + b"\n" == BREAK:

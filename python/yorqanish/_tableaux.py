@@ -64,9 +64,6 @@ class Grid(Tuple[Tuple[Numbers, ...], ...]):
 class Tableau(Fixed, Tuple[Row, ...]):
     """A tableau: the tuple of its rows from the top, in which None stands for a cell of the inner partition, as in Sage. `inner` is the inner
     partition, which can also be given beside the rows of the entries. A tableau does not change, and equals the tuple of its rows.
-    >>> t = Tableau(((1, 1), (2,)))
-    >>> t == ((1, 1), (2,)), t[0], str(t)
-    (True, (1, 1), '1 1 / 2')
     >>> skew = Tableau([[None, 1], [12]])
     >>> skew, skew.inner, skew == Tableau([[1], [12]], inner=[1])
     (Tableau(((None, 1), (12,))), (1,), True)

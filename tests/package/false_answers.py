@@ -13,7 +13,7 @@ from fractions import Fraction
 from common import LIBRARY, PROGRAM, Skipped, main, printed, raises, same, terms, within
 
 import yorqanish
-from yorqanish import Calculator, NoCalculator, Refusal, _search
+from yorqanish import Calculator, NoCalculator, Refusal, _ways
 
 SHAPES = [((1 + i % 5, 1 + i % 2), (1 + i % 7,)) for i in range(2000)]
 # (a Calculator that processes made by `fork` find as it was left)
@@ -322,7 +322,7 @@ def test_a_foreign_program_that_is_named():
 def test_a_foreign_program_on_the_path():
     """It is detected, and a later one on the PATH is used."""
     del os.environ["YORQANISH_CALC"]
-    _search.GENUINE = ""
+    _ways.GENUINE = ""
     with tempfile.TemporaryDirectory() as room:
         path = foreign_program(room, "while read line; do echo 0; done")
         os.environ["PATH"] = f"{room}:/usr/bin:/bin"

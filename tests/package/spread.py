@@ -98,8 +98,8 @@ def test_heavy_and_light_lines_are_balanced():
     for lines in (MIXED, *PATTERNS):
         four = Slept(0.08 if lines is MIXED else 0.02)
         began = time.monotonic()
-        lanes = _lines.Lanes(_lines.Desk(four, (None,) * 4, None), 4)
-        same([it.text for it in lanes.outcomes(_lines.Source(iter(lines)))], lines)
+        lanes = _lines.Lanes(_lines.Desk(four, (None,) * 4, None), 4, iter(lines))
+        same([it.text for it in lanes.outcomes()], lines)
         took, alone = time.monotonic() - began, lines.count(LIGHT) * 0.00002 + lines.count(HEAVY) * four.heavy
         assert four.ended and sum(four.spent) < 1.7 * alone, (sum(four.spent), alone)
         assert took < (0.5 if CLOCKS else 0.8) * alone, (took, alone)
@@ -109,7 +109,7 @@ def test_heavy_lines_come_as_they_are_done():
     """One line is not kept back for another one."""
     four = Slept(0.1)
     began, came = time.monotonic(), []
-    for _ in _lines.Lanes(_lines.Desk(four, (None,) * 4, None), 4).outcomes(_lines.Source([HEAVY] * 12)):
+    for _ in _lines.Lanes(_lines.Desk(four, (None,) * 4, None), 4, [HEAVY] * 12).outcomes():
         came.append(time.monotonic() - began)
     assert came[3] < 0.25 and came[-1] < 0.5 or not CLOCKS and came[-1] < 1.1, came
 
@@ -128,7 +128,7 @@ def test_lines_are_in_order_whatever_is_given_up():
 
     for count in (2, 3, 7):
         lines = [f"line{n}" if n % 7 else ("" if n % 2 else "# x") for n in range(5000)]
-        got = list(_lines.Lanes(_lines.Desk(Odd(0), (None,) * 4, None), count).outcomes(_lines.Source(iter(lines))))
+        got = list(_lines.Lanes(_lines.Desk(Odd(0), (None,) * 4, None), count, iter(lines)).outcomes())
         same(len(got), len(lines))
         same([it.line if it else None for it in got], [it if it.startswith("line") else None for it in lines])
         same({it.text == it.line or isinstance(it.refusal, MemoryError) for it in got if it}, {True})
