@@ -185,7 +185,7 @@ function factorsOf(sign, operands) {
   if (!lists) return null;
   const isAlone = each.map((it) => it.how === "one"), alone = isAlone.filter(Boolean).length, isMixed = alone > 0 && alone < each.length;
   const isDoubtful = alone > 0 && (sign === "side" || (sign === "comma" && !isMixed));
-  return { lists, isAlone: isMixed && sign !== "dash" ? isAlone : null, sign, isDoubtful };
+  return { lists, isAlone: isMixed && sign !== "dash" ? isAlone : null, sign, isDoubtful, areNumbers: alone === each.length };
 }
 
 /** What is made of the options of a command, each once, as one text, and of its arguments. */
@@ -225,7 +225,7 @@ const MEANINGS = {
   addAs: (how, list, more) => MEANINGS.addAll(typedWith(how, list), more),
   listPower: (list, [times, rest]) => (rest || Number(times) < 1 ? null : Number(times) > LIMITS.factors ? tooMuch() : Array(Number(times)).fill(list)),
   // expressions
-  atom: (family, list) => (isPartition(list) ? expression(atomText(family, list), [[family, list]], { isCalled: list.how === "called" }) : null),
+  atom: (family, list) => (isPartition(list) && !(family === "p" && list.join() === "0") ? expression(atomText(family, list), [[family, list]], { isCalled: list.how === "called" }) : null),
   named: (family, it) => (it.atoms[0][0] === family ? it : null),
   omega: (family, list) => {
     const made = OMEGA[family] ? MEANINGS.atom(OMEGA[family], family === "s" ? conjugate(list) : list) : null;
@@ -255,9 +255,10 @@ const MEANINGS = {
   multInLetters: (all) => (all.every((it) => it.count === all[0].count) ? productOf(all.map((it) => it.list), variables(all[0].count)) : null),
   littlewood: ([a], [b]) => (isPartition(a) && isPartition(b) ? eitherOf([atomText("s", b), atomText("s", a)], [atomText("s", a), atomText("s", b)]) : null),
   // products of lists
-  product: (it, count) => productOf(Array.isArray(it) ? it : schurFactors(it), variables(count)),
-  multOfS: (lists) => (lists.some((it) => it.length === 1 && it[0].length > 1) ? null : productOf(lists)),
-  schurOfS: (list) => (isPartition(list) && !(list.length === 1 && list[0].length > 1) ? inEachBasis("expand", atomText("s", list)) : null),
+  // (a function with more rows than there are variables is 0 in these)
+  product: (it, count, lists = Array.isArray(it) ? it : schurFactors(it)) => asking(productOf(lists, variables(count)), undefined, Boolean(count && lists?.some((list) => partition(list).length > count))),
+  // (S with an increasing list is also a Schur function, with its rows from the last one on)
+  rowsOfS: (list) => (list.length === 1 && list[0].length > 1 ? null : [list, [...list].reverse()].find(isPartition)),
   listProduct: (lists) => doubtful({ isDoubtful: lists.some((it) => it.how === "blanks") || lists.every((it) => it.how === "digits") }, productOf(lists)),
   // skew shapes, coefficients, numbers
   skew: (lists, count) => skewOf("skew", lists, variables(count)),
@@ -320,7 +321,8 @@ const MEANINGS = {
     const ofLabels = (list) => list.map((_, i) => String(sumOf(list.slice(i)))), isOf = (size) => (list) => list.length === size - 1 && sumOf(list) <= most;
     const isAffine = (list) => list.length === Number(rows) && sumOf(list) === most, isDimension = (list) => list.length === 1 && list[0] >= 1 && list[0] <= most + 1;
     const affine = from(isAffine, (list) => ofLabels(list.slice(1))), dimensions = rows === "2" && from(isDimension, ([number]) => [String(number - 1)]);
-    return eitherOf(fusionOf(it, rows, level), rows !== "2" && from(isOf(rows), ofLabels), affine, dimensions);
+    // (a number can name a module by its dimension)
+    return eitherOf(fusionOf({ ...it, isDoubtful: it.isDoubtful || it.areNumbers }, rows, level), rows !== "2" && from(isOf(rows), ofLabels), affine, dimensions);
   },
   inducedByOne: (letters, upTo, list) => (sumOf(list) === Number(letters) && Number(upTo) === sumOf(list) + 1 ? productOf([list, ["1"]]) : null),
   induced: (groups, letters, lists) => (isInducedTo(groups, letters) && groups.join() === lists.map((it) => String(sumOf(it))).join() ? productOf(lists) : null),
@@ -334,6 +336,10 @@ const MEANINGS = {
   onOneLine: (it) => (/^(?:mult|skew|expand) /.test(it.line) && !/ -m /.test(it.line) && !it.asked ? { ...it, line: it.line.replace(/^(\S+(?: -r \d+)?)/, "$1 -m") } : null),
   listOf: ({ list }) => list,
   mult: withOptions(productWithNumbers),
+  productOfGl: ({ lists }) => {
+    const count = String(lists[0].length), inGl = lists.every((it) => it.length === lists[0].length) && productOf(lists, variables(count));
+    return inGl && lists.some((it) => it[count - 1] === "0") ? inGl : eitherOf(inGl, productOf(lists));
+  },
   coefOf: (it) => inSomeOrder(doubtful(it, coefOf(it.lists)), it.lists),
   shapeOfTwo: (it) => (it.lists.length === 2 && ["side", "comma"].includes(it.sign) ? Object.assign([...it.lists], { isDoubtful: Boolean(it.isAlone || it.isDoubtful) }) : null),
   skewWith: withOptions((options, shape) => skewOf("skew", shape, options)),

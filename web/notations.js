@@ -317,13 +317,15 @@ InSymmetrica = schur -> word s
   | elmsym -> word e
   | monomial -> word m
 JacobiTrudi = giambelli|jacobi -? trudi? formula|determinant|expansion|identity? of|for|:? -> ""
-SProduct = S Index -> list
-  | SProduct Dot? S Index -> add 1 4
-  | S Index Exp -> listPower
+RowsOfS = S Index -> rowsOfS
+OfS_ = RowsOfS -> atom s
+SProduct = RowsOfS -> list
+  | SProduct Dot? RowsOfS -> add
+  | RowsOfS Exp -> listPower
 InVariables = in NUM variables|vars|variable -> 2
   | with|in at most NUM rows|parts -> 4
   | restricted|truncated to NUM rows|variables -> 3
-SPair = S Index By S Index -> list 2 5
+SPair = RowsOfS By RowsOfS -> list
 Several = Power , Power -> timesText
   | Several , Power -> timesText
 And = Power By Power -> timesText
@@ -350,9 +352,9 @@ Question = Sum InVariables -> product
   | SchurProduct Both -> product
   | Sum ForGl -> ! product
   | CompactProduct -> ? product  # 21*21: or a product of numbers
-  | SProduct -> ? multOfS  # S_{3,2}*S_{2,1}: of Schur, or of Schubert
-  | product of? SPair -> ? multOfS
-  | multiply SPair -> ? multOfS
+  | SProduct -> ? product  # S_{3,2}*S_{2,1}: of Schur, or of Schubert
+  | product of? SPair -> ? product
+  | multiply SPair -> ? product
   | SVars -> multInLetters
   | product of? And -> bare 3
   | multiply And -> bare 2
@@ -378,7 +380,7 @@ Slashed = s Slash -> 2
   | s Round Over Round -> list 2 4  # s(3,2)/(1)
   | s Round Over Empty -> list 2 4
   | s Empty Over Empty -> list 2 4
-  | s Index Over s Index -> list 2 5  # s_λ/s_μ
+  | s Index Over s Index -> ? list 2 5  # s_λ/s_μ: or the quotient
   | s Index Over ~_ ~{ Sub } -> list 2 6  # s₃₂/₁
   | s Index Perp s Index -> list 5 2
   | s Index Perp ( s Index ) -> list 6 2
@@ -478,7 +480,7 @@ Question = CoefOf Atom in Term -> coefficientIn
   | CoefOf S Above in Specht -> coef
   | CoefOf S Above in ind ( Specht ) -> coef
   | mult|multiplicity of? weight Arg in V Index -> kostkaOf 7 4
-  | weight multiplicity of? Arg in V Index -> kostkaOf 4 7
+  | weight multiplicity of? Arg in V Index -> kostkaOf 7 4
   | weight multiplicities of? V OfIndex -> expand m
   | weight multiplicities of? V OfIndex ForGl -> ! expand m 5
 Kostka = K|kostka ~( Pair ) -> kostka
@@ -614,7 +616,8 @@ SPoly "a Schubert polynomial" = Sch|schubert Perm -> 2
 DPoly = SPoly ~( x ;|, y ) -> 1
 SPolys = SPoly -> list
   | SPoly Exp -> listPower
-  | SPolys Dot? SPoly -> add
+  | SPolys *|∗|∪|∩? SPoly -> add
+  | SPolys ⊗ SPoly -> ? add  # or the outer product
 DPolys = DPoly -> list
   | DPolys Dot? DPoly -> add
   | DPoly Exp -> listPower
@@ -646,8 +649,8 @@ Question = SPolys -> schubertProduct
   | product of? double schubert polynomials of? for? WOther -> permuted dschubmult
   | equivariant product of? schubert? classes? WOther InFlags? -> ? permuted dschubmult 6
   | symmetrica . mult_schubert_schubert WOther -> permuted schubmult
-  | S Index -> ? schurOfS  # S_{321}: of Schubert, or of Schur
-  | S Index ~( x ) -> ? schurOfS
+  | OfS_ -> ? bare  # S_{321}: of Schubert, or of Schur
+  | OfS_ ~( x ) -> ? bare
   | SPolys InFlags -> ? schubertProduct
   | DPolys -> permuted dschubmult
   | product of? schubert? polynomials? SPolys By SPoly -> permuted schubmult 5 7
@@ -1000,14 +1003,15 @@ Rows "the number of variables" = -r NUM -> variables
 Command = mult Opt? Opt? Factors Opt? Opt? -> mult
   | mult ( Call Rows ) -> mult
   | LrCall Factors -> mult
+  | lr_tensor Factors -> productOfGl  # LiE: of GL_n, with n numbers in each list
   | LrCall [ Lams ] -> product
   | mult Factors ,|:? Where -> productIn
   | mult Where ,|:? Factors -> productIn 4 2
   | mult Skew -> ! skew  # mult (2,1)/(1)
   | mult Scaled -> ! expand s
-  | mult SProduct -> ? multOfS  # S: of Schur or of Schubert
+  | mult SProduct -> ? product  # S: of Schur or of Schubert
   | mult SPolys -> ? schubertProduct
-LrCall = lr_tensor|lrmult|lrrule|littlewoodrichardson|littlewoodrichardsonrule -> ""  # LiE and others
+LrCall = lrmult|lrrule|littlewoodrichardson|littlewoodrichardsonrule -> ""  # LiE and others
 OfLam = Lam -> atom s
 OfAny = AnyList -> atom s
 OfOperand = OperandList -> atom s
