@@ -136,11 +136,9 @@ function coefficientAt(family, list, it) {
   return hasFunction(it.text) ? asking(reading("expand", family, it.text), { kind: "c", at: list }, isZero) : null;
 }
 const OMEGA = { s: "s", h: "e", e: "h", p: "p" };
-const isInducedTo = (groups, letters) => letters === undefined || sumOf(groups) === Number(letters);
-const DUAL = { s: "s", h: "m", m: "h" };
 function scalarProduct(a, b) {
-  const [[family, list], more] = a.atoms || [[]];
-  return DUAL[family] && !more && b.atoms ? coefficientAt(DUAL[family], list, b) : null;
+  const [[family, list], more] = a.atoms || [[]], dual = { s: "s", h: "m", m: "h" }[family];
+  return dual && !more && b.atoms ? coefficientAt(dual, list, b) : null;
 }
 
 const areLetters = (lists) => lists.length > 0 && lists.every((it) => it && isPermutation(it));
@@ -185,7 +183,7 @@ function factorsOf(sign, operands) {
   if (!lists) return null;
   const isAlone = each.map((it) => it.how === "one"), alone = isAlone.filter(Boolean).length, isMixed = alone > 0 && alone < each.length;
   const isDoubtful = alone > 0 && (sign === "side" || (sign === "comma" && !isMixed));
-  return { lists, isAlone: isMixed && sign !== "dash" ? isAlone : null, sign, isDoubtful, areNumbers: alone === each.length };
+  return { lists, isAlone: isMixed && sign !== "dash" ? isAlone : null, sign, isDoubtful };
 }
 
 /** What is made of the options of a command, each once, as one text, and of its arguments. */
@@ -314,19 +312,19 @@ const MEANINGS = {
   // (a line meets a line in one condition in three dimensions, and in no other number)
   lines: (count, dimension) => MEANINGS.planes("2", dimension === "3" && 4, count, "2"),
   planes: (k, n, count, other) => (n - k === Number(other) && k * other === Number(count) && boxOf(k, n - k) ? MEANINGS.degree(boxOf(k, n - k)) : null),
-  // (labels of Dynkin are k-1 numbers with a sum of at most the level, or k with that sum; of su(2) a number can be a dimension)
+  // (labels of Dynkin are k-1 numbers with a sum of at most the level, or k with that sum; a number alone can be a dimension)
   fusionFor: (given, rows, level) => {
     const it = Array.isArray(given) ? { lists: given } : given, most = Number(level), isOpen = it.lists.every((list) => list.how !== "index");
     const from = (is, part) => isOpen && it.lists.every(is) && fusionOf({ ...it, lists: it.lists.map(part) }, rows, level);
     const ofLabels = (list) => list.map((_, i) => String(sumOf(list.slice(i)))), isOf = (size) => (list) => list.length === size - 1 && sumOf(list) <= most;
     const isAffine = (list) => list.length === Number(rows) && sumOf(list) === most, isDimension = (list) => list.length === 1 && list[0] >= 1 && list[0] <= most + 1;
     const affine = from(isAffine, (list) => ofLabels(list.slice(1))), dimensions = rows === "2" && from(isDimension, ([number]) => [String(number - 1)]);
-    // (a number can name a module by its dimension)
-    return eitherOf(fusionOf({ ...it, isDoubtful: it.isDoubtful || it.areNumbers }, rows, level), rows !== "2" && from(isOf(rows), ofLabels), affine, dimensions);
+    const isDoubtful = it.isDoubtful || (rows !== "2" && isOpen && it.lists.every((list) => list.length === 1));
+    return eitherOf(fusionOf({ ...it, isDoubtful }, rows, level), rows !== "2" && from(isOf(rows), ofLabels), affine, dimensions);
   },
   inducedByOne: (letters, upTo, list) => (sumOf(list) === Number(letters) && Number(upTo) === sumOf(list) + 1 ? productOf([list, ["1"]]) : null),
-  induced: (groups, letters, lists) => (isInducedTo(groups, letters) && groups.join() === lists.map((it) => String(sumOf(it))).join() ? productOf(lists) : null),
-  permutationModule: (groups, letters, one) => (isInducedTo(groups, letters) && one === "1" ? reading("expand s", atomText("h", descending(groups))) : null),
+  induced: (groups, lists) => (groups.join() === lists.map((it) => String(sumOf(it))).join() ? productOf(lists) : null),
+  permutationModule: (groups, one) => (one === "1" ? reading("expand s", atomText("h", descending(groups))) : null),
   restricted: (letters, list) => (sumOf(list) === Number(letters) + 1 ? skewOf("skew", [list, ["1"]]) : null),
   // the arguments of a command
   operand: (how, list) => list && { list, how },

@@ -616,8 +616,8 @@ SPoly "a Schubert polynomial" = Sch|schubert Perm -> 2
 DPoly = SPoly ~( x ;|, y ) -> 1
 SPolys = SPoly -> list
   | SPoly Exp -> listPower
-  | SPolys *|∗|∪|∩? SPoly -> add
-  | SPolys ⊗ SPoly -> ? add  # or the outer product
+  | SPolys *|∪|∩? SPoly -> add
+  | SPolys ⊗|∗ SPoly -> ? add  # or the outer, or the quantum product
 DPolys = DPoly -> list
   | DPolys Dot? DPoly -> add
   | DPoly Exp -> listPower
@@ -797,7 +797,8 @@ Question = SProduct2 -> ! product  # σ_1^4: no Gr(k,n) is said
   | ListProduct InVariables -> product
   | Juxtaposed -> ? product  # (3,1)(2): a product of s, or of cycles
 # ---------------------------------------------------------------- modules of GL_n and of S_n
-Indexed = s|V Index -> typedWith index
+Indexed = s Index -> typedWith index
+  | V Index -> 2
   | S Index V_ -> typedWith index
 TensorOf = tensor product? decomposition? of? -> ""
 TensorPair = Indexed By Indexed -> list
@@ -854,6 +855,9 @@ Specht = S Above ⊗ S Above -> list 2 5
   | Specht ⊗ S Above -> add 1 4
 Young = Sn * Sn -> list
   | Young * Sn -> add
+YoungIn = Young to Sn -> ofSize 3 1
+IndFrom = ind ~_ ~{ Young } -> 4
+  | ind ~_ ~{ Young } UpTo -> ofSize 6 4
 Spechts = S Above *|⊠|⊗ S Above -> list 2 5
   | S Above By S Above -> list 2 5
 SpechtsTo = Spechts to Sn -> ofSize 3 1
@@ -896,14 +900,14 @@ Question = Tensor -> ! product  # of modules of GL
   | ind ~( Spechts ) -> product
   | Induce Spechts -> product
   | Induce SpechtsTo -> product
-  | Induce Spechts from Young to Sn -> induced 4 6 2
+  | Induce Spechts from YoungIn -> induced 4 2
   | ind ~_ ~{ Sn } UpTo S Above -> inducedByOne 4 6 8
   | ind UpTo ~_ ~{ Sn } S Above -> inducedByOne 5 2 8
   | Restrict S Above to|on Sn -> restricted 5 3
   | Restrict S Above to|on Pair_ -> ? coproduct 3
-  | ind ~_ ~{ Young } UpTo? Specht -> induced 4 6 7
-  | ind ~_ ~{ Young } UpTo? ( Specht ) -> induced 4 6 8
-  | ind ~_ ~{ Young } UpTo? NUM -> permutationModule 4 6 7
+  | IndFrom Specht -> induced
+  | IndFrom ( Specht ) -> induced
+  | IndFrom NUM -> permutationModule
   | res UpTo? ~_ ~{ Sn } S Above -> restricted 5 8
   | res UpTo? ~_ ~{ Young } S Above -> ? coproduct 8
   | res ~_ ~{ Sn } UpTo S Above -> restricted 4 8
@@ -1235,10 +1239,11 @@ Line = LrCalc -> 1
 Asked = Question -> 1
   | Ask Asked -> 2
   | murnaghan -? nakayama? rule? for|of? Asked -> ? 6  # of characters, and of p_r s_λ
+  | dual pieri rule|formula? of|for|:? Asked -> ? 5  # of e_r s_λ, and of skew functions
 Ask = compute|calculate|evaluate|find|determine|decompose|draw|show|list|give|apply|do|class -> ""
   | decomposition of -> ""
   | what is|are? -> ""
-  | dual? pieri rule|formula? of|for|:? -> ""
+  | pieri rule|formula? of|for|:? -> ""
   | LrName product|rule|expansion|decomposition of|for|:? -> ""
   | LrName ~: -> ""
   | murnaghan -? nakayama? rule? : -> ""

@@ -10,8 +10,6 @@ const MOST_OFFERED = 12;
 /** The notations, made ready for the first line that is none of the program. */
 const ready = {};
 const notation = () => (ready.notation ??= grammarOf(NOTATIONS, MEANINGS));
-/** What ends a line. */
-const LINE_ENDS = /[\n\r\v\f\u0085\u2028\u2029]+/;
 
 /** A line without what is no part of it, and what that was, in words. */
 function plainLine(typed) {
@@ -118,13 +116,4 @@ function notRead(line, changes, { offers, stop }) {
 function hiddenReadings(typed, bare) {
   const ways = [bare, plainLine(typed.replace(ALL_UNSEEN, " ")).line, plainLine(typed.replace(/\u00ad/g, "-")).line].map(withSingleBlanks);
   return ways.flatMap((it) => (isCommand(textsOfWords(it)) ? [{ line: it }] : it.length > LONGEST ? [] : readingsOf(it).sure));
-}
-
-/** The command whose help a line asks for, nothing for all of them; undefined, if it asks for none. */
-function helpAsked(line) {
-  const first = /^(?:help|\?|man|--help|-h)(?:[ \t]+(\S+))?$/i.exec(line), last = /^(\S+)[ \t]+(?:help|(\?)|--help|-h)$/i.exec(line);
-  // (a question mark after a formula asks for its value)
-  if (!first && (!last || (last[2] && !GRAMMAR.has(last[1])))) return undefined;
-  const name = (first ? first[1] : last[1]) || "";
-  return GRAMMAR.has(name) ? name : "";
 }
