@@ -71,20 +71,13 @@ function grammarOf(table, meanings) {
       states.push({ of, at: items.length, gap: 0, rule: -1, first: null });
     }
   }
-  spreadFirsts(names.map((name, id) => ({ first: firstOf.get(name), begins: [...new Set(startsOf[id].map((it) => states[it].name))] })), ids, firstOfItem);
+  for (const name of names) {
+    // (what a rule can begin with; a set also gives what is added meanwhile)
+    const first = firstOf.get(name), begins = new Set([name]);
+    for (const it of begins) ids.has(it) ? startsOf[ids.get(it)].forEach((start) => begins.add(states[start].name)) : firstOfItem(it).forEach((is, i) => is && (first[i] = 1));
+  }
   const fast = { firsts: states.map((it) => it.first), rules: Int32Array.from(states, (it) => it.rule), gaps: Uint8Array.from(states, (it) => it.gap), ofs: Int32Array.from(states, (it) => it.of.id) };
   return { states, ids, kinds, labels, same, startsOf, startsBy: new Map(), signsOfItem, words: new Set([...literals].filter((it) => /^[A-Za-zü_]{2,}$/.test(it))), ...fast };
-}
-
-/** Has each rule begin with what the items begin with that its alternatives can begin with. */
-function spreadFirsts(rules, ids, firstOfItem) {
-  for (const { first, begins } of rules) {
-    const open = [...begins], seen = new Set(open);
-    for (const name of open) {
-      if (!ids.has(name)) firstOfItem(name).forEach((is, i) => is && (first[i] = 1));
-      else for (const it of rules[ids.get(name)].begins) if (!seen.has(it)) seen.add(it), open.push(it);
-    }
-  }
 }
 
 /** The alternatives of a rule that can begin with two signs, and the places in its others that the first of them reaches. */
@@ -181,8 +174,7 @@ function nodesOf({ state, before, between, others, nodes, columns, root }, wide)
   }
   const found = [];
   for (const { ended, first, isMixed } of columns) {
-    const needed = [];
-    for (let i = 0; i < ended.length; i += 1) if (isNeeded[first + i] === 1) needed.push(first + i);
+    const needed = ended.map((_, i) => first + i).filter((it) => isNeeded[it] === 1);
     // (those of a column were found the short ones first, but for some)
     found.push(...(isMixed ? needed.sort((a, b) => (ended[b - first] % wide) - (ended[a - first] % wide)) : needed));
   }
@@ -210,14 +202,12 @@ function marksOf(a, b) {
 function valuesOf({ states }, chart, signs) {
   const { state, before, between, others, nodes, root } = chart, needed = nodesOf(chart, signs.length + 1), known = Array(nodes.length).fill(null);
   let count = 0, isMany = needed === null;
-  const end = ({ give }, values, marks, found) => {
+  const end = ({ give }, values, of, found) => {
     const given = give(values);
-    if (given && given.isEither) for (const it of given) put(it.value, marksOf(marks, it), found);
-    else put(given, marks, found);
-  };
-  const put = (value, marks, found) => {
-    if (value === null || value === undefined || marks === null) return;
-    if (!putValue(found, { value, digits: marks.digits, isRepair: marks.isRepair, isDoubt: marks.isDoubt })) isMany = true;
+    for (const it of given && given.isEither ? given : [{ value: given }]) {
+      const marks = it.value === null || it.value === undefined ? null : marksOf(of, it);
+      if (marks && !putValue(found, { value: it.value, digits: marks.digits, isRepair: marks.isRepair, isDoubt: marks.isDoubt })) isMany = true;
+    }
   };
   // (the values of an alternative, filled in from its last item to its first one)
   const fill = (item, values, marks, found) => {

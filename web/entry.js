@@ -39,6 +39,12 @@ function fieldOf(slot, isOptional) {
   return element("label", {}, label, " ", input);
 }
 
+/** The numbers of a text that is one list, with blanks between; the text as it is, if it is none or has several readings. */
+function listRead(text, rule) {
+  const { values, isMany } = text.length > LONGEST ? { values: [] } : parsed(notation(), rule, signsOf(text, notation())), [first] = values;
+  return values.length === 1 && !isMany && first.digits === 0 && !first.isRepair && !first.isDoubt ? first.value.join(" ") : text;
+}
+
 /** The words of what a field has: of a list its numbers, if it has one reading. */
 function wordsOfField(input) {
   const { role } = input.dataset, text = input.value.trim();

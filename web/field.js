@@ -1,5 +1,8 @@
 // The field: what is typed, earlier lines, what is pasted, and what can be undone.
 
+/** What ends a line. */
+const LINE_ENDS = /[\n\r\v\f\u0085\u2028\u2029]+/;
+
 /** The most lines that are kept over reloads, the most that one reload runs again, and for how long a command may have run for that. */
 const MOST_HISTORY = 500;
 const MOST_AGAIN = 30;

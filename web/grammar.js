@@ -110,6 +110,15 @@ function isCommand(words) {
   return places.length === words.length - 1 && mayEnd;
 }
 
+/** The command whose help a line asks for, nothing for all of them; undefined, if it asks for none. */
+function helpAsked(line) {
+  const first = /^(?:help|\?|man|--help|-h)(?:[ \t]+(\S+))?$/i.exec(line), last = /^(\S+)[ \t]+(?:help|(\?)|--help|-h)$/i.exec(line);
+  // (a question mark after a formula asks for its value)
+  if (!first && (!last || (last[2] && !GRAMMAR.has(last[1])))) return undefined;
+  const name = (first ? first[1] : last[1]) || "";
+  return GRAMMAR.has(name) ? name : "";
+}
+
 // ---- the parts of a command
 
 /** The end of the words from a place on that a list of this role takes. */

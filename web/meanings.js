@@ -89,8 +89,9 @@ const descending = (list) => [...list].sort((a, b) => Number(b) - Number(a));
 const asking = (made, asked, zero = false) => made && { ...made, asked, zero };
 const doubtful = (it, made) => made && it && (it.isAlone || it.isDoubtful) ? { ...made, isDoubtful: true } : made;
 
-function skewOf(name, [outer, inner], options = "") {
-  return isPartition(outer) && isPartition(inner) && isInside(partition(inner), outer) ? reading(name, options, between([outer, inner], "/")) : null;
+function skewOf(name, shape, options = "", ...more) {
+  const [outer, inner] = shape, isSkew = isPartition(outer) && isPartition(inner) && isInside(partition(inner), outer);
+  return isSkew ? doubtful(shape, reading(name, options, between([outer, inner], "/"), ...more)) : null;
 }
 
 function coefOf([outer, ...factors]) {
@@ -135,11 +136,9 @@ function coefficientAt(family, list, it) {
   return hasFunction(it.text) ? asking(reading("expand", family, it.text), { kind: "c", at: list }, isZero) : null;
 }
 const OMEGA = { s: "s", h: "e", e: "h", p: "p" };
-const isInducedTo = (groups, letters) => letters === undefined || sumOf(groups) === Number(letters);
-const DUAL = { s: "s", h: "m", m: "h" };
 function scalarProduct(a, b) {
-  const [[family, list], more] = a.atoms || [[]];
-  return DUAL[family] && !more && b.atoms ? coefficientAt(DUAL[family], list, b) : null;
+  const [[family, list], more] = a.atoms || [[]], dual = { s: "s", h: "m", m: "h" }[family];
+  return dual && !more && b.atoms ? coefficientAt(dual, list, b) : null;
 }
 
 const areLetters = (lists) => lists.length > 0 && lists.every((it) => it && isPermutation(it));
@@ -168,13 +167,13 @@ function classesIn(given, space) {
 }
 /** The coefficient of a class in a product of classes: without q, or with the power of q that the degrees leave. */
 function classCoefficient(list, lists, space, q = 0) {
-  const made = list && space && classesIn(lists, { ...space, isQuantum: true }), [at, ...classes] = made ? [list, ...lists].map((it) => inFull(it, space)) : [];
+  const made = list && space && classesIn([...lists], { ...space, isQuantum: true }), [at, ...classes] = made ? [list, ...lists].map((it) => inFull(it, space)) : [];
   if (!made || ![at, ...classes].every((it) => isPartition(it) && isInBox(it, space))) return null;
   return asking(made, { kind: "c", at: partition(at) }, sizeOfAll(classes) !== sumOf(at) + q * (space.rows + space.columns));
 }
-const fusionOf = (it, rows, level) => doubtful(it, it && areMany(it.lists) && it.lists.every(isPartition) ? reading("fusion", plainNumber(rows), plainNumber(level), between(it.lists)) : null);
-const leastRows = (lists) => String(Math.max(1, ...lists.map((it) => it.length)));
-const leastColumns = (lists) => String(Math.max(1, ...lists.map((it) => Number(it[0] || 0))));
+const leastRows = ({ lists }) => String(Math.max(1, ...lists.map((it) => it.length)));
+const leastColumns = ({ lists }) => String(Math.max(1, ...lists.map((it) => Number(it[0] || 0))));
+const fusionOf = (it, rows = leastRows(it), level = leastColumns(it)) => doubtful(it, areMany(it.lists) && it.lists.every(isPartition) ? reading("fusion", plainNumber(rows), plainNumber(level), between(it.lists)) : null);
 
 // ---- lists as they stand beside each other: `{lists, isAlone, sign}`
 
@@ -206,29 +205,25 @@ function productWithNumbers(options, it) {
 const rowsText = (rows) => (rows.length === 0 ? ["."] : rows.flatMap((it, i) => [...(i > 0 ? ["/"] : []), ...(it.length > 0 ? it : ["."])]));
 
 const MEANINGS = {
-  typedWith, conjugate, timesText, powerOf, variables, kostkaOf, kostkaSkew, standardOf, characterOf, stanleyOf, boxOf, classesIn, classCoefficient, factorsOf, reading,
+  typedWith, conjugate, timesText, powerOf, variables, kostkaOf, kostkaSkew, standardOf, characterOf, stanleyOf, boxOf, classesIn, classCoefficient, factorsOf, reading, copies, fusionOf,
   // numbers and lists
   part: (number, times = "1") => (isPlain(number) ? copies(number, times) : null),
   partPower: (number, times) => (isPlain(number) ? eitherOf(copies(number, times), times.length > 1 && isDigits(times) && joined(copies(number, times[0]), [...times.slice(1)])) : null),
   digits: (base, exponent = "1") => (base.length === 1 && exponent === "1" ? [base] : digitsWithPower(base, exponent, true)),
   digitsPower: (base, exponent) => digitsWithPower(base, exponent, false),
   letters: (number) => [...number],
-  ones: (count) => copies("1", count),
   join: (a, b) => joined([].concat(a), [].concat(b)),
   point: () => typedWith("point", []),
   word: (text) => text,
   called: (list) => (list.length === 1 ? typedWith("called", list) : list),
-  exponent: (times) => anyOf({ value: [times, ""] }, /^\d[1-9]\d*$/.test(times) && { value: [times[0], times.slice(1)] }),
-  exponentBraced: (times) => [times, ""],
+  exponent: (times) => anyOf({ value: [times] }, /^\d[1-9]\d*$/.test(times) && { value: [times[0], times.slice(1)] }),
   list: (...all) => all,
   add: (list, more) => (list.length < 2 * LIMITS.values ? [...list, more] : tooMuch()),
   addAll: (list, more) => few(typedWith(list.how, [...list, ...more])),
-  addStarred: (list, more) => MEANINGS.addAll(typedWith("star", list), more),
-  addCup: (list, more) => MEANINGS.addAll(typedWith("cup", list), more),
-  cup: (list) => typedWith("cup", list),
+  addAs: (how, list, more) => MEANINGS.addAll(typedWith(how, list), more),
   listPower: (list, [times, rest]) => (rest || Number(times) < 1 ? null : Number(times) > LIMITS.factors ? tooMuch() : Array(Number(times)).fill(list)),
   // expressions
-  atom: (family, list) => (isPartition(list) ? expression(atomText(family, list), [[family, list]], { isCalled: list.how === "called" }) : null),
+  atom: (family, list) => (isPartition(list) && !(family === "p" && list.join() === "0") ? expression(atomText(family, list), [[family, list]], { isCalled: list.how === "called" }) : null),
   named: (family, it) => (it.atoms[0][0] === family ? it : null),
   omega: (family, list) => {
     const made = OMEGA[family] ? MEANINGS.atom(OMEGA[family], family === "s" ? conjugate(list) : list) : null;
@@ -243,13 +238,8 @@ const MEANINGS = {
     const all = terms(rows, [...rows.keys()], 1).map(([sign, ...texts], i) => (sign < 0 ? "-" : i > 0 ? "+" : "") + texts.join("*"));
     return MEANINGS.paren(expression(all.join(""), null, ...rows.flat()));
   },
-  scalar: (number) => expression(number),
-  fraction: (it, below) => expression(`${it.text}/${below}`),
-  minus: (it) => expression(`-${it.text}`, null, it),
-  plus: (a, sign, b) => expression(a.text + sign + b.text, null, a, b),
+  written: (joint, ...parts) => expression(parts.map((it) => it.text ?? it).join(joint), null, ...parts),
   functor: (family, times) => expression(atomText(family, [times]), [["s", family === "h" ? [times] : copies("1", times)]]),
-  vector: () => expression("s[1]", [["s", ["1"]]]),
-  tensorPower: (times) => powerOf(MEANINGS.vector(), [times]),
   bare: (it) => (schurFactors(it) && areMany(it.atoms) ? productOf(listsOfAtoms(it)) : hasFunction(it.text) ? inEachBasis("expand", it.text) : null),
   inSchur: (it) => productOf(schurFactors(it)) || reading("expand s", it.text),
   expand: (basis, it) => reading("expand", basis, it.text),
@@ -262,11 +252,11 @@ const MEANINGS = {
   inLetters: (it, count) => ({ list: it.atoms[0][1], count }),
   multInLetters: (all) => (all.every((it) => it.count === all[0].count) ? productOf(all.map((it) => it.list), variables(all[0].count)) : null),
   littlewood: ([a], [b]) => (isPartition(a) && isPartition(b) ? eitherOf([atomText("s", b), atomText("s", a)], [atomText("s", a), atomText("s", b)]) : null),
-  inVariables: (it, count) => productOf(schurFactors(it), variables(count)),
   // products of lists
-  product: (lists, count) => productOf(lists, variables(count)),
-  multOfS: (lists) => (lists.some((it) => it.length === 1 && it[0].length > 1) ? null : productOf(lists)),
-  schurOfS: (list) => (isPartition(list) && !(list.length === 1 && list[0].length > 1) ? inEachBasis("expand", atomText("s", list)) : null),
+  // (a function with more rows than there are variables is 0 in these)
+  product: (it, count, lists = Array.isArray(it) ? it : schurFactors(it)) => asking(productOf(lists, variables(count)), undefined, Boolean(count && lists?.some((list) => partition(list).length > count))),
+  // (S with an increasing list is also a Schur function, with its rows from the last one on)
+  rowsOfS: (list) => (list.length === 1 && list[0].length > 1 ? null : [list, [...list].reverse()].find(isPartition)),
   listProduct: (lists) => doubtful({ isDoubtful: lists.some((it) => it.how === "blanks") || lists.every((it) => it.how === "digits") }, productOf(lists)),
   // skew shapes, coefficients, numbers
   skew: (lists, count) => skewOf("skew", lists, variables(count)),
@@ -290,7 +280,7 @@ const MEANINGS = {
   // (one number without a comma: SYT(5) are those of a size, too, and S^3 is a symmetric power, or a sphere)
   orSize: (list) => doubtful({ isAlone: !list[1] && list.how }, standardOf(list)),
   standardSkew: ([outer, inner]) => (isPartition(outer) && isPartition(inner) && sumOf(inner) <= sumOf(outer) ? kostkaSkew([outer, inner], copies("1", sumOf(outer) - sumOf(inner))) : null),
-  ofSize: (letters, list) => (sumOf(list) === Number(letters) ? list : null),
+  ofSize: (letters, it) => (sumOf(it.flat()) === Number(letters) ? it : null),
   characterAtCycle: (list, cycle) => (Number(cycle) <= sumOf(list) ? characterOf(list, [cycle, ...(copies("1", sumOf(list) - Number(cycle)) || [])]) : null),
   characterOnly: (list) => (isPartition(list) ? eitherOf(standardOf(list), reading("expand p", atomText("s", list))) : null),
   inner: (a, b) => scalarProduct(a, b) || scalarProduct(b, a),
@@ -322,19 +312,19 @@ const MEANINGS = {
   // (a line meets a line in one condition in three dimensions, and in no other number)
   lines: (count, dimension) => MEANINGS.planes("2", dimension === "3" && 4, count, "2"),
   planes: (k, n, count, other) => (n - k === Number(other) && k * other === Number(count) && boxOf(k, n - k) ? MEANINGS.degree(boxOf(k, n - k)) : null),
-  // (labels of Dynkin are k-1 numbers with a sum of at most the level, or k with that sum; of su(2) a number can be a dimension)
+  // (labels of Dynkin are k-1 numbers with a sum of at most the level, or k with that sum; a number alone can be a dimension)
   fusionFor: (given, rows, level) => {
-    const it = Array.isArray(given) ? { lists: given } : given, most = Number(level), isOpen = it && it.lists.every((list) => list.how !== "index");
+    const it = Array.isArray(given) ? { lists: given } : given, most = Number(level), isOpen = it.lists.every((list) => list.how !== "index");
     const from = (is, part) => isOpen && it.lists.every(is) && fusionOf({ ...it, lists: it.lists.map(part) }, rows, level);
     const ofLabels = (list) => list.map((_, i) => String(sumOf(list.slice(i)))), isOf = (size) => (list) => list.length === size - 1 && sumOf(list) <= most;
     const isAffine = (list) => list.length === Number(rows) && sumOf(list) === most, isDimension = (list) => list.length === 1 && list[0] >= 1 && list[0] <= most + 1;
     const affine = from(isAffine, (list) => ofLabels(list.slice(1))), dimensions = rows === "2" && from(isDimension, ([number]) => [String(number - 1)]);
-    return eitherOf(it && fusionOf(it, rows, level), rows !== "2" && from(isOf(rows), ofLabels), affine, dimensions);
+    const isDoubtful = it.isDoubtful || (rows !== "2" && isOpen && it.lists.every((list) => list.length === 1));
+    return eitherOf(fusionOf({ ...it, isDoubtful }, rows, level), rows !== "2" && from(isOf(rows), ofLabels), affine, dimensions);
   },
-  inducedTo: (lists, letters) => (sizeOfAll(lists) === Number(letters) ? productOf(lists) : null),
   inducedByOne: (letters, upTo, list) => (sumOf(list) === Number(letters) && Number(upTo) === sumOf(list) + 1 ? productOf([list, ["1"]]) : null),
-  induced: (groups, letters, lists) => (isInducedTo(groups, letters) && groups.join() === lists.map((it) => String(sumOf(it))).join() ? productOf(lists) : null),
-  permutationModule: (groups, letters, one) => (isInducedTo(groups, letters) && one === "1" ? reading("expand s", atomText("h", descending(groups))) : null),
+  induced: (groups, lists) => (groups.join() === lists.map((it) => String(sumOf(it))).join() ? productOf(lists) : null),
+  permutationModule: (groups, one) => (one === "1" ? reading("expand s", atomText("h", descending(groups))) : null),
   restricted: (letters, list) => (sumOf(list) === Number(letters) + 1 ? skewOf("skew", [list, ["1"]]) : null),
   // the arguments of a command
   operand: (how, list) => list && { list, how },
@@ -343,24 +333,23 @@ const MEANINGS = {
   emptyFirst: (operand) => factorsOf("dash", [{ list: [], how: "list" }, operand]),
   onOneLine: (it) => (/^(?:mult|skew|expand) /.test(it.line) && !/ -m /.test(it.line) && !it.asked ? { ...it, line: it.line.replace(/^(\S+(?: -r \d+)?)/, "$1 -m") } : null),
   listOf: ({ list }) => list,
-  schurOf: ({ list }) => MEANINGS.atom("s", list),
   mult: withOptions(productWithNumbers),
+  productOfGl: ({ lists }) => {
+    const count = String(lists[0].length), inGl = lists.every((it) => it.length === lists[0].length) && productOf(lists, variables(count));
+    return inGl && lists.some((it) => it[count - 1] === "0") ? inGl : eitherOf(inGl, productOf(lists));
+  },
   coefOf: (it) => inSomeOrder(doubtful(it, coefOf(it.lists)), it.lists),
   shapeOfTwo: (it) => (it.lists.length === 2 && ["side", "comma"].includes(it.sign) ? Object.assign([...it.lists], { isDoubtful: Boolean(it.isAlone || it.isDoubtful) }) : null),
-  skewWith: withOptions((options, shape) => doubtful(shape, skewOf("skew", shape, options))),
+  skewWith: withOptions((options, shape) => skewOf("skew", shape, options)),
   productIn: (it, space, box) => (it && space && (!box || (space.rows === box.rows && space.columns === box.columns)) ? doubtful(it, classesIn(it.lists, space)) : null),
-  quantumLeast: (it, rows) => MEANINGS.productIn(it, MEANINGS.space("quantum", boxOf(rows ?? leastRows(it.lists), leastColumns(it.lists)))),
-  fusion: (rows, level, it) => fusionOf(it, rows, level),
-  fusionLeast: (it, rows) => fusionOf(it, rows ?? leastRows(it.lists), leastColumns(it.lists)),
+  quantumLeast: (it, rows) => MEANINGS.productIn(it, MEANINGS.space("quantum", boxOf(rows ?? leastRows(it), leastColumns(it)))),
   // tableaux
   unrsk: (p, q) => reading("unrsk", rowsText(p), "-", rowsText(q)),
-  rect: (shape, tableau) => doubtful(shape, skewOf("rect", shape) && reading("rect", between(shape, "/"), "-", rowsText(tableau))),
   rectOfSkew: (rows) => {
     const inner = rows.map((it) => String(it.filter((cell) => cell === ".").length)), entries = rows.map((it, i) => it.slice(Number(inner[i])));
-    return inner.some((it) => it !== "0") && !entries.flat().includes(".") ? MEANINGS.rect([rows.map((it) => String(it.length)), partition(inner)], entries) : null;
+    return inner.some((it) => it !== "0") && !entries.flat().includes(".") ? MEANINGS.shaped("rect", "-", [rows.map((it) => String(it.length)), partition(inner)], entries) : null;
   },
-  tab: (shape) => doubtful(shape, skewOf("tab", shape)),
-  tabFrom: (shape, tableau) => doubtful(shape, skewOf("tab", shape) && reading("tab", between(shape, "/"), "-from", rowsText(tableau))),
+  shaped: (name, sign, shape, tableau) => skewOf(name, shape, "", sign, tableau ? rowsText(tableau) : ""),
   tabNumber: (shape) => asking(skewOf("tab", shape), { kind: "count" }),
   tabContent: (shape, content) => coefOf([...shape, content]),
   lrcalc: (it) => (/^coprod/.test(it.line) ? anyOf({ value: it, isRepair: true }) : it),

@@ -68,6 +68,7 @@ nothing == the please 's me \left \right \big \Big \bigl \bigr \displaystyle \li
 Family "m, e, h, p or s" := m e h p s
 SM := s m
 Sign "+ or -" := + -
+Minus "-" := -
 Sch ~= S 𝔖
 Prime ~= ' ′ ’
 To ~= in to into as
@@ -131,7 +132,7 @@ Below = Inside -> 1
   | Round Prime -> conjugate
   | yng ( Inside ) -> 3
   | ydiagram { Inside } -> 3
-  | □ -> ones "1"
+  | □ -> copies "1" "1"
 Tight = NUM -> part  # an index without braces
   | Tight ~, ~NUM -> join
 Index "an index" = ~_ ~{ Below } -> 3  # s_{2,1}
@@ -161,13 +162,13 @@ Lower = ~_ ~{ Sub } -> 3
   | ~_ ~Round -> 2
   | ~_ ~Square -> 2
 Exp "an exponent" = ~^ ~NUM -> exponent  # ^2; ^21 is 21, or 2 and a digit
-  | ~^ ~{ NUM } -> exponentBraced
-  | ~sup -> exponentBraced
-  | ** NUM -> exponentBraced
-  | ~^ ~( NUM ) -> exponentBraced
-  | squared -> exponentBraced "2"
-  | cubed -> exponentBraced "3"
-  | to NUM power? -> exponentBraced
+  | ~^ ~{ NUM } -> list
+  | ~sup -> list
+  | ** NUM -> list
+  | ~^ ~( NUM ) -> list
+  | squared -> list "2"
+  | cubed -> list "3"
+  | to NUM power? -> list
 Arg "a partition" = Lam -> 1  # in a phrase
   | s Index -> 2
   | Tightly -> 1
@@ -219,21 +220,21 @@ DList = [ DRow ] -> 2
   | { DRow } -> 2
 DRow = Sum -> list
   | DRow ,|& Sum -> add
-Number = NUM -> scalar
+Number = NUM -> written ""
 Scalar = Number -> 1
   | Number Exp -> powerOf
 Factor "a factor" = Power -> 1
   | Scalar -> 1
-  | Scalar / NUM -> fraction
-  | frac { Scalar } { NUM } -> fraction
+  | Scalar / NUM -> written /
+  | frac { Scalar } { NUM } -> written /
 Term "an expression" = Factor -> 1
   | Term * Factor -> timesText
   | Term ∗ Factor -> ? timesText  # or the internal product
   | Term Power -> timesText  # h_3 e_2, 2 s_1
   | Term Scalar -> ! timesText  # h[2]^{2}3
 Sum "an expression" = Term -> 1
-  | - Term -> minus
-  | Sum Sign Term -> plus
+  | Minus Term -> written ""
+  | Sum Sign Term -> written ""
 Basis "a basis" = Family -> 1
   | Family ~_ i -> 1
   | Family ~_ Greek -> 1  # m_λ
@@ -316,13 +317,15 @@ InSymmetrica = schur -> word s
   | elmsym -> word e
   | monomial -> word m
 JacobiTrudi = giambelli|jacobi -? trudi? formula|determinant|expansion|identity? of|for|:? -> ""
-SProduct = S Index -> list
-  | SProduct Dot? S Index -> add 1 4
-  | S Index Exp -> listPower
+RowsOfS = S Index -> rowsOfS
+OfS_ = RowsOfS -> atom s
+SProduct = RowsOfS -> list
+  | SProduct Dot? RowsOfS -> add
+  | RowsOfS Exp -> listPower
 InVariables = in NUM variables|vars|variable -> 2
   | with|in at most NUM rows|parts -> 4
   | restricted|truncated to NUM rows|variables -> 3
-SPair = S Index By S Index -> list 2 5
+SPair = RowsOfS By RowsOfS -> list
 Several = Power , Power -> timesText
   | Several , Power -> timesText
 And = Power By Power -> timesText
@@ -343,15 +346,15 @@ Product = product of? Both -> 3
   | product of? NUM? schur functions :? Both -> 7
 SchurProduct = schur functions? product of|:? -> ""
   | outer product of|:? -> ""
-Question = Sum InVariables -> inVariables
+Question = Sum InVariables -> product
   | SchurProduct Sum -> bare
   | SchurProduct ListProduct -> listProduct
   | SchurProduct Both -> product
-  | Sum ForGl -> ! inVariables
+  | Sum ForGl -> ! product
   | CompactProduct -> ? product  # 21*21: or a product of numbers
-  | SProduct -> ? multOfS  # S_{3,2}*S_{2,1}: of Schur, or of Schubert
-  | product of? SPair -> ? multOfS
-  | multiply SPair -> ? multOfS
+  | SProduct -> ? product  # S_{3,2}*S_{2,1}: of Schur, or of Schubert
+  | product of? SPair -> ? product
+  | multiply SPair -> ? product
   | SVars -> multInLetters
   | product of? And -> bare 3
   | multiply And -> bare 2
@@ -377,7 +380,7 @@ Slashed = s Slash -> 2
   | s Round Over Round -> list 2 4  # s(3,2)/(1)
   | s Round Over Empty -> list 2 4
   | s Empty Over Empty -> list 2 4
-  | s Index Over s Index -> list 2 5  # s_λ/s_μ
+  | s Index Over s Index -> ? list 2 5  # s_λ/s_μ: or the quotient
   | s Index Over ~_ ~{ Sub } -> list 2 6  # s₃₂/₁
   | s Index Perp s Index -> list 5 2
   | s Index Perp ( s Index ) -> list 6 2
@@ -477,7 +480,7 @@ Question = CoefOf Atom in Term -> coefficientIn
   | CoefOf S Above in Specht -> coef
   | CoefOf S Above in ind ( Specht ) -> coef
   | mult|multiplicity of? weight Arg in V Index -> kostkaOf 7 4
-  | weight multiplicity of? Arg in V Index -> kostkaOf 4 7
+  | weight multiplicity of? Arg in V Index -> kostkaOf 7 4
   | weight multiplicities of? V OfIndex -> expand m
   | weight multiplicities of? V OfIndex ForGl -> ! expand m 5
 Kostka = K|kostka ~( Pair ) -> kostka
@@ -613,7 +616,8 @@ SPoly "a Schubert polynomial" = Sch|schubert Perm -> 2
 DPoly = SPoly ~( x ;|, y ) -> 1
 SPolys = SPoly -> list
   | SPoly Exp -> listPower
-  | SPolys Dot? SPoly -> add
+  | SPolys *|∪|∩? SPoly -> add
+  | SPolys ⊗|∗ SPoly -> ? add  # or the outer, or the quantum product
 DPolys = DPoly -> list
   | DPolys Dot? DPoly -> add
   | DPoly Exp -> listPower
@@ -645,8 +649,8 @@ Question = SPolys -> schubertProduct
   | product of? double schubert polynomials of? for? WOther -> permuted dschubmult
   | equivariant product of? schubert? classes? WOther InFlags? -> ? permuted dschubmult 6
   | symmetrica . mult_schubert_schubert WOther -> permuted schubmult
-  | S Index -> ? schurOfS  # S_{321}: of Schubert, or of Schur
-  | S Index ~( x ) -> ? schurOfS
+  | OfS_ -> ? bare  # S_{321}: of Schubert, or of Schur
+  | OfS_ ~( x ) -> ? bare
   | SPolys InFlags -> ? schubertProduct
   | DPolys -> permuted dschubmult
   | product of? schubert? polynomials? SPolys By SPoly -> permuted schubmult 5 7
@@ -713,18 +717,18 @@ Class "a class" = σ Index -> 2
   | NUM -> ! digits  # 2*1 in QH*(Gr(2,4))
   | [ X Index ] -> 3
   | PointClass -> 1
-  | hyperplane class? -> ones "1"
-  | h|H|x -> ? ones "1"
-  | σ ~_ ~□ -> ones "1"
+  | hyperplane class? -> copies "1" "1"
+  | h|H|x -> ? copies "1" "1"
+  | σ ~_ ~□ -> copies "1" "1"
   | c ~_ ~NUM ~( Q ) -> list  # Chern classes of the quotient, and of the dual of the sub-bundle
-  | c ~_ ~NUM ~( S ~^ ~Ast ) -> ones
+  | c ~_ ~NUM ~( S ~^ ~Ast ) -> copies "1"
 ClassPower = Class -> list
   | σ IndexPower -> list
   | Class Exp -> listPower
 Classes = ClassPower -> 1
   | Classes *|⊗|∩ ClassPower -> addAll
-  | Classes Cup ClassPower -> addCup  # that of H*, or the quantum product
-  | Classes ∗ ClassPower -> addStarred  # the quantum product, or that of H*
+  | Classes Cup ClassPower -> addAs cup  # that of H*, or the quantum product
+  | Classes ∗ ClassPower -> addAs star  # the quantum product, or that of H*
   | Classes ClassPower -> addAll
 ClassPair = Classes By Classes -> addAll
 ProductOf = product of? -> ""
@@ -737,8 +741,8 @@ QName = small? quantum product|multiplication|multiply|pieri|monk rule? of|for? 
 LrName = LR|lr -> ""
   | littlewood - richardson -> ""
 ProductOfPair = ProductOf ClassPair -> 2
-  | cup ProductOf ClassPair -> cup
-  | cup ProductOf Classes -> cup
+  | cup ProductOf ClassPair -> typedWith cup
+  | cup ProductOf Classes -> typedWith cup
 Stop = ,|:|; -> ""
 Question = Classes Equals? Stop? Where -> classesIn
   | Where Stop? Classes -> classesIn 3 1
@@ -793,7 +797,8 @@ Question = SProduct2 -> ! product  # σ_1^4: no Gr(k,n) is said
   | ListProduct InVariables -> product
   | Juxtaposed -> ? product  # (3,1)(2): a product of s, or of cycles
 # ---------------------------------------------------------------- modules of GL_n and of S_n
-Indexed = s|V Index -> typedWith index
+Indexed = s Index -> typedWith index
+  | V Index -> 2
   | S Index V_ -> typedWith index
 TensorOf = tensor product? decomposition? of? -> ""
 TensorPair = Indexed By Indexed -> list
@@ -822,11 +827,14 @@ V_ = V -> ""
   | ( V ) -> ""
 Cn = C ~^ ~NUM -> 3
   | ( C ~^ ~NUM ) -> 4
-Module = V -> vector
+Vector = V -> copies "1" "1"
+OneV = Vector -> atom s
+Module = OneV -> 1
   | Functor V_ -> 1
 Modules = Module ⊗ Module -> timesText
   | Modules ⊗ Module -> timesText
-  | V ~^ ~{ ⊗ NUM } -> tensorPower
+  | OneV TensorPower -> powerOf
+TensorPower = ~^ ~{ ⊗ NUM } -> list 4
 Composite = Functor ( Functor V_ ) -> composed
   | Functor ( V_ ) ( Functor V_ ) -> composed
   | Functor Functor V_ -> composed
@@ -847,8 +855,12 @@ Specht = S Above ⊗ S Above -> list 2 5
   | Specht ⊗ S Above -> add 1 4
 Young = Sn * Sn -> list
   | Young * Sn -> add
+YoungIn = Young to Sn -> ofSize 3 1
+IndFrom = ind ~_ ~{ Young } -> 4
+  | ind ~_ ~{ Young } UpTo -> ofSize 6 4
 Spechts = S Above *|⊠|⊗ S Above -> list 2 5
   | S Above By S Above -> list 2 5
+SpechtsTo = Spechts to Sn -> ofSize 3 1
 Induce = induction product of? -> ""
   | induce -> ""
 UpTo = ~^ ~{ Sn } -> 3
@@ -878,8 +890,8 @@ Question = Tensor -> ! product  # of modules of GL
   | GlOf Stop? TensorOf TensorPair -> product 4 1
   | clebsch - gordan TensorOf? ForGl ~: TensorPair -> product 7 5
   | Modules Into? -> inSchur 1
-  | Modules Irreducibles? ForGl -> inVariables 1 3
-  | TensorOf ModulePair ForGl -> inVariables
+  | Modules Irreducibles? ForGl -> product 1 3
+  | TensorOf ModulePair ForGl -> product
   | Composite Into? -> plethysm s 1
   | FunctorOf -> plethysm s
   | CompositeIn Into? -> ! plethysm s 1
@@ -887,15 +899,15 @@ Question = Tensor -> ! product  # of modules of GL
   | ind ~( Specht ) -> product
   | ind ~( Spechts ) -> product
   | Induce Spechts -> product
-  | Induce Spechts to Sn -> inducedTo
-  | Induce Spechts from Young to Sn -> induced 4 6 2
+  | Induce SpechtsTo -> product
+  | Induce Spechts from YoungIn -> induced 4 2
   | ind ~_ ~{ Sn } UpTo S Above -> inducedByOne 4 6 8
   | ind UpTo ~_ ~{ Sn } S Above -> inducedByOne 5 2 8
   | Restrict S Above to|on Sn -> restricted 5 3
   | Restrict S Above to|on Pair_ -> ? coproduct 3
-  | ind ~_ ~{ Young } UpTo? Specht -> induced 4 6 7
-  | ind ~_ ~{ Young } UpTo? ( Specht ) -> induced 4 6 8
-  | ind ~_ ~{ Young } UpTo? NUM -> permutationModule 4 6 7
+  | IndFrom Specht -> induced
+  | IndFrom ( Specht ) -> induced
+  | IndFrom NUM -> permutationModule
   | res UpTo? ~_ ~{ Sn } S Above -> restricted 5 8
   | res UpTo? ~_ ~{ Young } S Above -> ? coproduct 8
   | res ~_ ~{ Sn } UpTo S Above -> restricted 4 8
@@ -995,23 +1007,24 @@ Rows "the number of variables" = -r NUM -> variables
 Command = mult Opt? Opt? Factors Opt? Opt? -> mult
   | mult ( Call Rows ) -> mult
   | LrCall Factors -> mult
+  | lr_tensor Factors -> productOfGl  # LiE: of GL_n, with n numbers in each list
   | LrCall [ Lams ] -> product
   | mult Factors ,|:? Where -> productIn
   | mult Where ,|:? Factors -> productIn 4 2
   | mult Skew -> ! skew  # mult (2,1)/(1)
   | mult Scaled -> ! expand s
-  | mult SProduct -> ? multOfS  # S: of Schur or of Schubert
+  | mult SProduct -> ? product  # S: of Schur or of Schubert
   | mult SPolys -> ? schubertProduct
-LrCall = lr_tensor|lrmult|lrrule|littlewoodrichardson|littlewoodrichardsonrule -> ""  # LiE and others
+LrCall = lrmult|lrrule|littlewoodrichardson|littlewoodrichardsonrule -> ""  # LiE and others
 OfLam = Lam -> atom s
-OfAny = Any -> schurOf
-OfOperand = Operand -> schurOf
+OfAny = AnyList -> atom s
+OfOperand = OperandList -> atom s
 Scaled = Scalar ~OfLam -> timesText  # mult 2(2,1) - 1: a coefficient
   | Scalar ~SAtom -> timesText
   | Negative ␣- ␣OfAny -> timesText
   | Scaled ␣- ␣OfAny -> timesText
   | Scaled Dot? OfOperand -> timesText
-Negative = - OfOperand -> minus
+Negative = Minus OfOperand -> written ""
 Command = coef|lrcoef|LR Factors -> coefOf
   | coef|coefficient of? OperandList in StarLists -> coef
   | coef StarLists OperandList -> coef 3 2  # coef (2,1)*(2,1) (3,2,1): the product is one thing
@@ -1041,13 +1054,13 @@ Command = quantum QWhere ,|:? Factors -> productIn 4 2
   | quantum ( QBox ) Factors -> ! productIn 5 3
   | quantum NUM Factors -> ! quantumLeast 3 2  # n-k is missing
   | quantum Factors -> ! quantumLeast  # k and n-k are missing
-  | fusion NUM NUM Factors -> fusion
-  | fusion ( NUM , NUM , Call ) -> fusion
+  | fusion NUM NUM Factors -> fusionOf 4 2 3
+  | fusion ( NUM , NUM , Call ) -> fusionOf 7 3 5
   | fusion Lie Level :? Factors -> fusionFor 5 2 3
   | fusion Factors for|of|in? Lie Level -> fusionFor
-  | fusion ( NUM , NUM ) Factors -> ! fusion
-  | fusion NUM Factors -> ! fusionLeast 3 2
-  | fusion Factors -> ! fusionLeast
+  | fusion ( NUM , NUM ) Factors -> ! fusionOf 7 3 5
+  | fusion NUM Factors -> ! fusionOf 3 2
+  | fusion Factors -> ! fusionOf
 WPerm "a permutation" = Square -> 1
   | permutation ( Square ) -> 3
   | ( permutation ( Square ) ) -> 4
@@ -1161,7 +1174,7 @@ RectName = rectification|rectify|rect|jdt of|on|:? -> ""
 Question = RectName skew? tableau? SkewTableau -> rectOfSkew
   | RectName ( SkewTableau ) -> rectOfSkew
   | SkewTableau . rectify ( ) -> rectOfSkew
-  | rectification of Tableau of|, shape? Skew -> rect 6 3
+  | rectification of Tableau of|, shape? Skew -> shaped rect - 6 3
   | word with PAndQ -> 3
   | which? permutation|word has|with PAndQ under? rsk? -> 4
   | rsk ~^ ~{ - NUM } PAndQ -> 7
@@ -1173,18 +1186,18 @@ PAndQ = ( Tableau , Tableau ) -> unrsk
   | P = Tableau ,? and? Q = Tableau -> unrsk
 Command = unrsk Tableau -? Tableau -> unrsk
   | unrsk PAndQ -> 2
-  | rect Shape -|: Tableau -> rect
-  | rect ( Lams , Tableau ) -> rect
-  | tab|lrtab Shape -> tab
-  | tab Shape -from Tableau -> tabFrom
+  | rect Shape -|: Tableau -> shaped rect -
+  | rect ( Lams , Tableau ) -> shaped rect -
+  | tab|lrtab Shape -> shaped tab ""
+  | tab Shape -from Tableau -> shaped tab -from
 LrTableaux = LR|lr skew? Tableaux -> ""
   | littlewood - richardson skew? Tableaux -> ""
   | yamanouchi Tableaux -> ""
   | reverse? lattice word? Tableaux -> ""
 Tableaux = tableaux|tableau|fillings -> ""
-Question = all? LrTableaux OfShape? Skew -> tab
-  | all? LrTableaux OfShape? Skew , after Tableau -> tabFrom
-  | all? LrTableaux OfShape? Skew OfContent Arg -> ! tab 4
+Question = all? LrTableaux OfShape? Skew -> shaped tab ""
+  | all? LrTableaux OfShape? Skew , after Tableau -> shaped tab -from
+  | all? LrTableaux OfShape? Skew OfContent Arg -> ! shaped tab "" 4
   | Count LrTableaux OfShape? Skew -> tabNumber
   | Count LrTableaux OfShape? Skew OfContent Arg -> tabContent
 Command = expand Opt? Basis ␣Sum Opt? -> expandWith  # (expand s2 has no basis)
@@ -1206,7 +1219,7 @@ Question = Square -> ? bareList  # which operation?
 LrCalc = lrcalc Command -> lrcalc  # lrcalc mult -r2 2 1 - 2 1
   | lrcalc . Command -> lrcalc
   | lrcalc mult - ~q QBox Factors -> productIn 6 5
-  | lrcalc mult - ~f NUM , NUM Factors -> fusion
+  | lrcalc mult - ~f NUM , NUM Factors -> fusionOf 8 5 7
   | lrcalc coprod - ~a One -> coproduct
   | lrcalc . mult_quantum ( Call2 , QBox ) -> classesIn
   | lrcalc . mult_fusion ( Call2 , NUM , NUM ) -> fusionFor
@@ -1226,10 +1239,11 @@ Line = LrCalc -> 1
 Asked = Question -> 1
   | Ask Asked -> 2
   | murnaghan -? nakayama? rule? for|of? Asked -> ? 6  # of characters, and of p_r s_λ
+  | dual pieri rule|formula? of|for|:? Asked -> ? 5  # of e_r s_λ, and of skew functions
 Ask = compute|calculate|evaluate|find|determine|decompose|draw|show|list|give|apply|do|class -> ""
   | decomposition of -> ""
   | what is|are? -> ""
-  | dual? pieri rule|formula? of|for|:? -> ""
+  | pieri rule|formula? of|for|:? -> ""
   | LrName product|rule|expansion|decomposition of|for|:? -> ""
   | LrName ~: -> ""
   | murnaghan -? nakayama? rule? : -> ""
@@ -1237,3 +1251,36 @@ Ask = compute|calculate|evaluate|find|determine|decompose|draw|show|list|give|ap
   | how do|can I|we -> ""
   | product ~: -> ""
 `;
+
+/** The kinds of pieces of a text, each in a group of its own, the first that fits. */
+const PIECES = [
+  "[ \\t\\u00a0\\u1680\\u2000-\\u200a\\u202f\\u205f\\u3000~]+|\\\\[,;:! ]",
+  "\\d+",
+  "\\\\(?:mathfrak|frak|mathcal|mathscr|mathbf|mathrm|mathbb|operatorname|text|textrm)\\s?\\{[A-Za-z ]+\\}|\\\\(?:math(?:frak|bb|cal)|frak)\\s?[A-Z]",
+  "[A-Za-zü]+(?:_[A-Za-z]{2,})*",
+  "-(?:from|[rm])(?![A-Za-z])(?=[ \\t\\d]|$)",
+  "[⁰¹²³⁴-⁹]+",
+  "[₀-₉]+",
+  "\\\\(?:begin|end)\\{(?:ytableau|[vp]matrix)\\}|\\\\\\\\|\\\\[A-Za-z]+|\\*\\*|[-=]>|(?<=[A-Za-z])'s(?![A-Za-z_({[\\d])|.",
+];
+const PIECE = new RegExp(PIECES.map((it) => `(${it})`).join("|"), "gsu");
+
+/** Letters that stand for a list, a permutation or a tableau, and for a number, if their value is given; and the signs of a value. */
+const LIST_LETTERS = /^[λμνρκαβγuvwabPQTU]$/u;
+const NUMBER_LETTERS = /^[knNd]$/;
+const OF_VALUES = ["NUM", "(", ")", "[", "]", "{", "}", ",", ".", "/", "∖", "^", "∅"];
+
+/** What is no part of a line and is left out, in words. */
+const LEFT_OUT = [
+  ["characters that are not seen", ALL_UNSEEN],
+  ["the prompt", /^\s*(?:\$|sage:|>>>|In \[\d+\]:|i\d+ :)(?=[ \t])/],
+  ["the comment", COMMENT],
+  ["the declaration", /^\s*(?:(?:import [\w.]+(?: as \w+)?|from [\w.]+ import [\w*]+|Sym *= *SymmetricFunctions\([A-Z]+\)|(?:Sym|SymmetricFunctions\([A-Z]+\))\.inject_shorthands\(\)|X *= *SchubertPolynomialRing\([A-Z]+\)|([mehps]) *= *(?:SymmetricFunctions\([A-Z]+\)|Sym)\.(?:\1|(?=\1)(?:schur|homogeneous|elementary|power|monomial))\(\)) *; *)+/],
+  ["the name of the program", /^\s*(?:\S{0,200}\/)?calc(?:-static|-glibc)?(?=[ \t]|$)/],
+  ["the quotes", /^\s*(?:"([^"]*)"|'([^']*)'|“([^“”]*)”)\s*$/],
+  ["the quotes", /(?<=^|[ \t])["'“]((?! )[^"'“”]*[^"'“” ])["'”](?=[ \t]|$)/g],
+  ["the signs around a formula", /^\s*(?:\$\$?([^$]*)\$\$?|\\\(([^\\]*(?:\\[^)][^\\]*)*)\\\)|\\\[([^\\]*(?:\\[^\]][^\\]*)*)\\\])\s*$/],
+  ["the sign at the end", /(?:=(?:[ \t]*\?)?|[?;]|(?<=[\])}\w])\.)$/],
+];
+/** A word in quotes beside a sign, or numbers in quotes: these belong together in a way that is lost without the quotes. */
+const QUOTED_APART = /["'’”] ?["'‘“] ?[-+*/]|[-+*/] ?["'’”] ["'‘“]/;

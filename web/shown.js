@@ -103,6 +103,11 @@ function frontOf(line, text) {
   return line.includes("-m") && text.length < MOST_CHARACTERS ? text : text.slice(0, endOf(text, LINES_SHOWN));
 }
 
+/** A text with its unseen characters in sight, such as ⟨U+202E⟩. */
+function inSight(text) {
+  return text.replace(ALL_UNSEEN, (c) => `⟨U+${c.codePointAt(0).toString(16).toUpperCase().padStart(4, "0")}⟩`);
+}
+
 /** The words of a line, with the place of an offence marked, and unseen characters in sight. */
 function marked(line, told) {
   if (!told || told.at === undefined) return [inSight(line)];

@@ -11,24 +11,6 @@ const MISSEEN = [new RegExp(`[\\p{L}\\p{N}](?:${UNSEEN.source})+[\\p{L}\\p{N}]`,
 /** Whether a text with unseen characters can be seen as another one. */
 const isMisseen = (text) => MISSEEN.some((it) => it.test(text));
 
-/** A text with its unseen characters in sight, such as ⟨U+202E⟩. */
-function inSight(text) {
-  return text.replace(ALL_UNSEEN, (c) => `⟨U+${c.codePointAt(0).toString(16).toUpperCase().padStart(4, "0")}⟩`);
-}
-
-/** The kinds of pieces of a text, each in a group of its own, the first that fits. */
-const PIECES = [
-  "[ \\t\\u00a0\\u1680\\u2000-\\u200a\\u202f\\u205f\\u3000~]+|\\\\[,;:! ]",
-  "\\d+",
-  "\\\\(?:mathfrak|frak|mathcal|mathscr|mathbf|mathrm|mathbb|operatorname|text|textrm)\\s?\\{[A-Za-z ]+\\}|\\\\(?:math(?:frak|bb|cal)|frak)\\s?[A-Z]",
-  "[A-Za-zü]+(?:_[A-Za-z]{2,})*",
-  "-(?:from|[rm])(?![A-Za-z])(?=[ \\t\\d]|$)",
-  "[⁰¹²³⁴-⁹]+",
-  "[₀-₉]+",
-  "\\\\(?:begin|end)\\{(?:ytableau|[vp]matrix)\\}|\\\\\\\\|\\\\[A-Za-z]+|\\*\\*|[-=]>|(?<=[A-Za-z])'s(?![A-Za-z_({[\\d])|.",
-];
-const PIECE = new RegExp(PIECES.map((it) => `(${it})`).join("|"), "gsu");
-
 /** The signs of a text, in turn: `{kind, value, at, end, gap}`, of which `kind` is the sign in the notations and `gap` a blank before it. `words` are
  * the words that are known, and `same` has the signs that other texts stand for. */
 function signsOf(text, { words, same }) {
@@ -76,11 +58,6 @@ function signsOf(text, { words, same }) {
   }
   return signs;
 }
-
-/** Letters that stand for a list, a permutation or a tableau, and for a number, if their value is given; and the signs of a value. */
-const LIST_LETTERS = /^[λμνρκαβγuvwabPQTU]$/u;
-const NUMBER_LETTERS = /^[knNd]$/;
-const OF_VALUES = ["NUM", "(", ")", "[", "]", "{", "}", ",", ".", "/", "∖", "^", "∅"];
 
 /** The signs with the value for each letter of which one is given beside them, as in s_λ s_μ for λ = (3,1), μ = 21; in brackets, if it is a list without. */
 function withValues(signs) {

@@ -10,23 +10,6 @@ const MOST_OFFERED = 12;
 /** The notations, made ready for the first line that is none of the program. */
 const ready = {};
 const notation = () => (ready.notation ??= grammarOf(NOTATIONS, MEANINGS));
-/** What ends a line. */
-const LINE_ENDS = /[\n\r\v\f\u0085\u2028\u2029]+/;
-
-/** What is no part of a line and is left out, in words. */
-const LEFT_OUT = [
-  ["characters that are not seen", ALL_UNSEEN],
-  ["the prompt", /^\s*(?:\$|sage:|>>>|In \[\d+\]:|i\d+ :)(?=[ \t])/],
-  ["the comment", COMMENT],
-  ["the declaration", /^\s*(?:(?:import [\w.]+(?: as \w+)?|from [\w.]+ import [\w*]+|Sym *= *SymmetricFunctions\([A-Z]+\)|(?:Sym|SymmetricFunctions\([A-Z]+\))\.inject_shorthands\(\)|X *= *SchubertPolynomialRing\([A-Z]+\)|([mehps]) *= *(?:SymmetricFunctions\([A-Z]+\)|Sym)\.(?:\1|(?=\1)(?:schur|homogeneous|elementary|power|monomial))\(\)) *; *)+/],
-  ["the name of the program", /^\s*(?:\S{0,200}\/)?calc(?:-static|-glibc)?(?=[ \t]|$)/],
-  ["the quotes", /^\s*(?:"([^"]*)"|'([^']*)'|“([^“”]*)”)\s*$/],
-  ["the quotes", /(?<=^|[ \t])["'“]((?! )[^"'“”]*[^"'“” ])["'”](?=[ \t]|$)/g],
-  ["the signs around a formula", /^\s*(?:\$\$?([^$]*)\$\$?|\\\(([^\\]*(?:\\[^)][^\\]*)*)\\\)|\\\[([^\\]*(?:\\[^\]][^\\]*)*)\\\])\s*$/],
-  ["the sign at the end", /(?:=(?:[ \t]*\?)?|[?;]|(?<=[\])}\w])\.)$/],
-];
-/** A word in quotes beside a sign, or numbers in quotes: these belong together in a way that is lost without the quotes. */
-const QUOTED_APART = /["'’”] ?["'‘“] ?[-+*/]|[-+*/] ?["'’”] ["'‘“]/;
 
 /** A line without what is no part of it, and what that was, in words. */
 function plainLine(typed) {
@@ -133,19 +116,4 @@ function notRead(line, changes, { offers, stop }) {
 function hiddenReadings(typed, bare) {
   const ways = [bare, plainLine(typed.replace(ALL_UNSEEN, " ")).line, plainLine(typed.replace(/\u00ad/g, "-")).line].map(withSingleBlanks);
   return ways.flatMap((it) => (isCommand(textsOfWords(it)) ? [{ line: it }] : it.length > LONGEST ? [] : readingsOf(it).sure));
-}
-
-/** The command whose help a line asks for, nothing for all of them; undefined, if it asks for none. */
-function helpAsked(line) {
-  const first = /^(?:help|\?|man|--help|-h)(?:[ \t]+(\S+))?$/i.exec(line), last = /^(\S+)[ \t]+(?:help|(\?)|--help|-h)$/i.exec(line);
-  // (a question mark after a formula asks for its value)
-  if (!first && (!last || (last[2] && !GRAMMAR.has(last[1])))) return undefined;
-  const name = (first ? first[1] : last[1]) || "";
-  return GRAMMAR.has(name) ? name : "";
-}
-
-/** The numbers of a text that is one list, with blanks between; the text as it is, if it is none or has several readings. */
-function listRead(text, rule) {
-  const { values, isMany } = text.length > LONGEST ? { values: [] } : parsed(notation(), rule, signsOf(text, notation())), [first] = values;
-  return values.length === 1 && !isMany && first.digits === 0 && !first.isRepair && !first.isDoubt ? first.value.join(" ") : text;
 }
