@@ -133,7 +133,7 @@ function moduleBeside() {
   const [packed] = /H4sI[A-Za-z0-9+/]+=*/.exec(page) || [""];
   try {
     const bytes = zlib.gunzipSync(Buffer.from(packed, "base64"));
-    if (crypto.createHash("sha256").update(bytes).digest("hex") === "96e327c8a6b128ca80488f849f8a861c186da5cb1778ca36608740b1e4e3fb55") return bytes;
+    if (crypto.createHash("sha256").update(bytes).digest("hex") === "462092d78e7204eb3c31284c0d3c9ef863376e165989ca8060e9bb218263467a") return bytes;
   } catch {
     // (no module, as another one, is not that of this file)
   }
