@@ -2,8 +2,7 @@
 ghost use Rattle.std.specs.Prelude.{ℕ, List};
 ghost use Rattle.sym_model.specs.Command.{Command};
 ghost use Rattle.sym_model.specs.Entry.{SpellsWithoutOffence};
-ghost use Rattle.sym_model.specs.Expansion.{Basis};
-ghost use Rattle.sym_model.specs.Grammar.{entries_of};
+ghost use Rattle.sym_model.specs.Grammar.{all_entries};
 ghost use Rattle.calc_words.specs.WrittenLimits.{KeepsLimits};
 
 /// A command whose words have no error is within its limits: partitions of at most 64 parts and 512
@@ -12,6 +11,6 @@ ghost use Rattle.calc_words.specs.WrittenLimits.{KeepsLimits};
 /// degree that is allowed for the target basis, from 1 to 10,000 lines and seeds of at most 65,536.
 /// A law: it does nothing when it runs.
 pub fn written_limits_law()
-    ensures { (bases : List Basis) (words : List (List ℕ)) (command : Command)
-        → SpellsWithoutOffence (entries_of bases) words command → KeepsLimits command }
+    ensures { (words : List (List ℕ)) (command : Command)
+        → SpellsWithoutOffence all_entries words command → KeepsLimits command }
 {}

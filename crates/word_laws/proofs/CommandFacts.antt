@@ -9,7 +9,7 @@ use Rattle.sym_model.specs.WordForms.{optional, form_words}
 use Rattle.sym_model.specs.Command.{Command, expand}
 use Rattle.sym_model.specs.CommandOffence.{first_offence}
 use Rattle.sym_model.specs.Entry.{Entry, SpellsWithoutOffence}
-use Rattle.sym_model.specs.Grammar.{entries_of, expand_entry}
+use Rattle.sym_model.specs.Grammar.{all_entries, expand_entry}
 use Rattle.word_laws.specs.Reading.{forms_of}
 use Rattle.word_laws.proofs.LongestPrefixes.{CanBe, some_words}
 use Rattle.word_laws.proofs.NoOffences.{within_degree}
@@ -19,9 +19,8 @@ each_has : (entries : List Entry) → CanBe (forms_of entries) → EachOf (λ (e
 each_has [] c = tt
 each_has (e ∷ entries) c = (some_words e.form c.0, each_has entries c.1)
 
-pub has_words : (basis : Basis) (bases : List Basis) → EachOf (λ (e : Entry). (words : Words) × Has e.form words) (entries_of (basis ∷ bases))
-has_words basis bases =
-    let can : CanBe (forms_of (entries_of (basis ∷ bases))) = search parts 64 in each_has (entries_of (basis ∷ bases)) can
+pub has_words : EachOf (λ (e : Entry). (words : Words) × Has e.form words) all_entries
+has_words = let can : CanBe (forms_of all_entries) = search parts 64 in each_has all_entries can
 
 -- the target basis of a command `expand`; the basis m for any other command
 abbrev target_of : Command → Basis
@@ -37,15 +36,15 @@ expression_of _ = number 0
 abbrev Within : Entry → Type 0
 Within e = (x : Written e.form) → first_offence (e.offends x) ≡ None → degree (expression_of (e.says x)) ≤ degree_limit (target_of (e.says x))
 
-expand_within : (bases : List Basis) → Within (expand_entry bases)
-expand_within bases x h =
+expand_within : Within expand_entry
+expand_within x h =
     within_degree (2 + length (words_of (optional form_words) x.1.0)) (degree_limit x.1.1.0) x.1.1.1 h
 
 no_expression : degree (number 0) ≤ degree_limit monomials
 no_expression = omega arith
 
-all_within : (bases : List Basis) → EachOf Within (entries_of bases)
-all_within bases = let e = expand_within bases in let n = no_expression in search parts 64
+all_within : EachOf Within all_entries
+all_within = let e = expand_within in let n = no_expression in search parts 64
 
 some_within : (entries : List Entry) → EachOf Within entries → (words : Words) (c : Command) → SpellsWithoutOffence entries words c
     → degree (expression_of c) ≤ degree_limit (target_of c)
@@ -54,6 +53,6 @@ some_within (e ∷ entries) k words c (inl h) =
     subst (λ c. degree (expression_of c) ≤ degree_limit (target_of c)) (sym h.says_it) (k.0 h.has.written h.no_offence)
 some_within (e ∷ entries) k words c (inr h) = some_within entries k.1 words c h
 
-pub expression_degree : (bases : List Basis) (words : Words) (target : Basis) (one_line : Bool) (t : Tree)
-    → SpellsWithoutOffence (entries_of bases) words (expand target one_line t) → degree t ≤ degree_limit target
-expression_degree bases words target one_line t h = some_within (entries_of bases) (all_within bases) words (expand target one_line t) h
+pub expression_degree : (words : Words) (target : Basis) (one_line : Bool) (t : Tree)
+    → SpellsWithoutOffence all_entries words (expand target one_line t) → degree t ≤ degree_limit target
+expression_degree words target one_line t h = some_within all_entries all_within words (expand target one_line t) h

@@ -12,7 +12,6 @@ pub mod NoOffences
 pub mod EntryLists
 pub mod CommandFacts
 pub mod ShapedTableaux
-pub mod TargetLetters
 pub mod EarlierOffences
 pub mod JudgedRows
 pub mod LeftShapes

@@ -16,7 +16,7 @@ ghost use Rattle.sym_model.specs.Command.{Command, expand};
 ghost use Rattle.sym_model.specs.CommandOffence.{Offence, ComesBefore, first_offence};
 ghost use Rattle.sym_model.specs.Entry.{Entry, SpellsCommand, HasFirstOffence};
 ghost use Rattle.sym_model.specs.Entry.{SpellsWithoutOffence};
-ghost use Rattle.sym_model.specs.Grammar.{entries_of, line_entries};
+ghost use Rattle.sym_model.specs.Grammar.{all_entries, line_entries};
 ghost use Rattle.sym_model.specs.SyntaxPlace.{IsSyntaxPlace};
 ghost use Rattle.word_laws.specs.OneReading.{are_unambiguous};
 ghost use Rattle.word_laws.specs.Reading.{bytes_taken, forms_of, syntax_place};
@@ -51,10 +51,8 @@ pub fn syntax_place_law()
 /// at most one first error. The forms of all commands of this program, and those of the commands
 /// that a line of a batch allows, have this property.
 pub fn one_command_law()
-    ensures all_commands { (bases : List Basis)
-        → are_unambiguous (forms_of (entries_of bases)) ≡ true }
-    ensures line_commands { (bases : List Basis)
-        → are_unambiguous (forms_of (line_entries bases)) ≡ true }
+    ensures all_commands { are_unambiguous (forms_of all_entries) ≡ true }
+    ensures line_commands { are_unambiguous (forms_of line_entries) ≡ true }
     ensures one_command { (entries : List Entry) → are_unambiguous (forms_of entries) ≡ true
         → (words : List (List ℕ)) (a b : Command) → SpellsCommand entries words a
         → SpellsCommand entries words b → a ≡ b }
@@ -79,11 +77,8 @@ pub fn command_offence_law()
 /// For each command there are words of its form. If the words of a command `expand` have no error,
 /// the degree of its expression is at most the greatest degree that its target basis allows.
 pub fn words_of_commands_law()
-    ensures words { (basis : Basis) (bases : List Basis)
-        → EachOf (λ (e : Entry). (words : List (List ℕ)) × Has e.form words)
-        (entries_of (basis ∷ bases)) }
-    ensures degree { (bases : List Basis) (words : List (List ℕ)) (target : Basis) (one_line : Bool)
-        (e : Tree)
-        → SpellsWithoutOffence (entries_of bases) words (expand target one_line e)
+    ensures words { EachOf (λ (e : Entry). (words : List (List ℕ)) × Has e.form words) all_entries }
+    ensures degree { (words : List (List ℕ)) (target : Basis) (one_line : Bool) (e : Tree)
+        → SpellsWithoutOffence all_entries words (expand target one_line e)
         → degree e ≤ degree_limit target }
 {}
