@@ -32,6 +32,11 @@ def has_name(name, tree):
     return tree[:2] == ("name", name) or any(has_name(name, it) for it in tree if isinstance(it, tuple))
 
 
+def places_in(name, place):
+    """A name with its place in the code, or each name in a pair."""
+    return [(name, place)] if isinstance(name, str) else [it for at, part in enumerate(name) for it in places_in(part, f"{place}[{at}]")]
+
+
 class Definitions:
     """All definitions of the folder `crates` of a repository, read when they are used. The meaning of a path is a triple: the declaration and its
     file, or None twice for a word of the kit, and the name, which may be that of a constructor."""
@@ -205,10 +210,11 @@ class Definitions:
         return self.quantified(kind, *parts, local) if kind in ("all", "some") else self.called(tree, local)
 
     def function_of(self, names, body, local):
-        """The code of a function of variables."""
+        """The code of a function of variables, or of pairs of them."""
         self.fresh += 1
-        more = {name: f"w{self.fresh}_{at}" for at, name in enumerate(names)}
-        return f"(lambda {', '.join(more.values())}: {self.write(body, {**local, **more})})"
+        given = [(name, f"w{self.fresh}_{at}") for at, name in enumerate(names)]
+        more = dict(it for name, place in given for it in places_in(name, place))
+        return f"(lambda {', '.join(place for _, place in given)}: {self.write(body, {**local, **more})})"
 
     def values(self, names, kind, local):
         """The code of the values that are tried for names of a type."""

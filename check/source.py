@@ -66,6 +66,12 @@ def names_in(words):
     return tuple(name for _, it in items(words) if it[0] != "{" for name in (it[1:it.index(":")] if it[1:] else it))
 
 
+def bound(words):
+    """What `λ` binds: a name, or for a pair as in `λ (x, (y, z)).` a tuple of what its parts bind."""
+    pair = lambda it: tuple(map(pair, split(it[1:-1], ","))) if it[0] == "(" else it[0]
+    return tuple(it for _, item in items(words) for it in ([pair(item)] if "," in item else names_in(item)))
+
+
 def tree(words, file):
     """The tree of a type, a pattern or an expression. What stands in braces is left out."""
     found, parts = [], list(items(words))
@@ -113,11 +119,11 @@ def put_atom(found, words, at, file):
 
 
 def bound_tree(words, file):
-    """The tree of `λ x. body`, `let x = value in body`, `(x y : T) → body`, `(x : T) × body` or `{x : T} → body`."""
+    """The tree of `λ x. body`, `λ (x, y). body`, `let x = value in body`, `(x y : T) → body`, `(x : T) × body` or `{x : T} → body`."""
     (_, first), *parts = items(words)
     if first == ["λ"]:
         at = next(at for at, it in parts if it == ["."])
-        return "lambda", names_in(words[1:at]), tree(words[at + 1:], file)
+        return "lambda", bound(words[1:at]), tree(words[at + 1:], file)
     if first == ["let"]:
         depths = itertools.accumulate((it == ["let"]) - (it == ["in"]) for _, it in parts)
         at = next(at for (at, _), depth in zip(parts, depths) if depth < 0)

@@ -18,7 +18,7 @@ use Rattle.calc_base.specs.Fault.{Rose, counted_up}
 use Rattle.calc_base.specs.Puts.{Puts}
 use Rattle.calc_base.specs.Sink.{SinkSeen, Appends, AppendsPrefix}
 use Rattle.calc_base.specs.Source.{SourceSeen}
-use Rattle.calc_language.specs.BuiltCommands.{batch_entries}
+use Rattle.sym_model.specs.Grammar.{line_entries}
 use Rattle.calc_words.specs.declared.command.Command.{Command}
 use Rattle.calc_language.specs.Lines.{IsLineRead}
 use Rattle.calc_language.specs.Reading.{IsFaultOf, command_of}
@@ -48,12 +48,12 @@ pub line_reply : (line : BatchLine) (command : Command) (outcome : Outcome) → 
     → IsReplyTo (command_of command) (Ok outcome) → ComesOfLine line (Some outcome)
 line_reply too_long command outcome read reply = absurd read
 line_reply passed_over command outcome read reply = absurd read
-line_reply (spoken words) command outcome read reply = computes_reply batch_entries words (command_of command) (Ok outcome) read.0 reply
+line_reply (spoken words) command outcome read reply = computes_reply line_entries words (command_of command) (Ok outcome) read.0 reply
 
 -- the line has the block that consists of `text` and of an ending with the status `answer`
 pub record HasBlockOf (line : BatchLine) (text : List ℕ) (answer : Status) : Type 0 where
   pub ending : Ending
-  pub are : AreBlocks batch_entries (line ∷ []) ((text, ending) ∷ [])
+  pub are : AreBlocks line_entries (line ∷ []) ((text, ending) ∷ [])
   pub same : answer ≡ status_of ending
 
 long_block : (reason : WordsFault) → IsFaultOf too_long_offence reason → HasBlockOf too_long (text_of (Refused reason)) (status_for (Refused reason))
@@ -77,10 +77,10 @@ comes_block too_long outcome comes block =
     subst (λ o. HasBlockOf too_long (text_of o) (status_for o)) (sym comes.is) (long_block comes.reason comes.names)
 comes_block passed_over outcome comes block = absurd comes
 comes_block (spoken words) outcome comes block =
-    let has = has_outcome batch_entries words outcome comes block in
+    let has = has_outcome line_entries words outcome comes block in
     record { ending = has.ending; are = (has.outcome, tt); same = has.same }
 
-pub comes_nothing : (line : BatchLine) → ComesOfLine line None → AreBlocks batch_entries (line ∷ []) []
+pub comes_nothing : (line : BatchLine) → ComesOfLine line None → AreBlocks line_entries (line ∷ []) []
 comes_nothing too_long comes = absurd comes
 comes_nothing passed_over comes = tt
 comes_nothing (spoken words) comes = absurd comes
@@ -100,7 +100,7 @@ pub record Runs (first now : SinkSeen) (source here : SourceSeen) (pending : Lis
   pub is_whole : IsWholeLines spelled
   pub read : ReadsTold source.left here.left lines pending has_ended
   pub blocks : List Block
-  pub are_blocks : AreBlocks batch_entries (map batch_line lines) blocks
+  pub are_blocks : AreBlocks line_entries (map batch_line lines) blocks
   pub is_first : progress.is_first ≡ is_none blocks
   pub is_done : progress.is_done ≡ are_done blocks
   pub appended : Appends first now (batch_text blocks)
@@ -221,11 +221,11 @@ last_took {before = before} {now = now} {pending = pending} {behind = behind} t 
 map_more : (lines : List (List ℕ)) (line : List ℕ) → map batch_line (lines ++ line ∷ []) ≡ map batch_line lines ++ batch_line line ∷ []
 map_more lines line = map-append batch_line lines (line ∷ [])
 
-blocks_more : (lines : List (List ℕ)) (line : List ℕ) (blocks others : List Block) → AreBlocks batch_entries (map batch_line lines) blocks
-    → AreBlocks batch_entries (batch_line line ∷ []) others → AreBlocks batch_entries (map batch_line (lines ++ line ∷ [])) (blocks ++ others)
+blocks_more : (lines : List (List ℕ)) (line : List ℕ) (blocks others : List Block) → AreBlocks line_entries (map batch_line lines) blocks
+    → AreBlocks line_entries (batch_line line ∷ []) others → AreBlocks line_entries (map batch_line (lines ++ line ∷ [])) (blocks ++ others)
 blocks_more lines line blocks others h k =
-    subst (λ ls. AreBlocks batch_entries ls (blocks ++ others)) (sym (map_more lines line))
-    (more_blocks batch_entries (map batch_line lines) (batch_line line ∷ []) blocks others h k)
+    subst (λ ls. AreBlocks line_entries ls (blocks ++ others)) (sym (map_more lines line))
+    (more_blocks line_entries (map batch_line lines) (batch_line line ∷ []) blocks others h k)
 
 text_more : (blocks : List Block) (b : Block) → batch_text (blocks ++ b ∷ []) ≡ batch_text blocks ++ (separator (is_none blocks) ++ b.0)
 text_more [] b = refl
@@ -253,7 +253,7 @@ runs_passed {source = source} {before = before} {now = now} {pending = pending} 
   read = read_more source.left before.left now.left t.taken pending t.text behind r.lines had ended r.read t.took t.no_feed t.ends;
   blocks = r.blocks;
   are_blocks =
-      subst (AreBlocks batch_entries (map batch_line (r.lines ++ t.text ∷ []))) (append-nil r.blocks)
+      subst (AreBlocks line_entries (map batch_line (r.lines ++ t.text ∷ []))) (append-nil r.blocks)
       (blocks_more r.lines t.text r.blocks [] r.are_blocks (comes_nothing (batch_line t.text) t.is));
   is_first = r.is_first;
   is_done = r.is_done;
@@ -307,16 +307,16 @@ is_source_fault (inr e) = cc
 no_end : {answer : Status} {Read : Type 0} → (IsThrough answer → ⊥) → IsThrough answer → Read
 no_end none through = absurd (none through)
 
-runs_input : (input : List ℕ) (lines : List (List ℕ)) (blocks : List Block) → AreBlocks batch_entries (map batch_line lines) blocks → lines_of input ≡ lines
-    → RunsInput batch_entries input (batch_text blocks) (batch_ending blocks)
+runs_input : (input : List ℕ) (lines : List (List ℕ)) (blocks : List Block) → AreBlocks line_entries (map batch_line lines) blocks → lines_of input ≡ lines
+    → RunsInput line_entries input (batch_text blocks) (batch_ending blocks)
 runs_input input lines blocks are same = record {
   blocks = blocks;
-  are_blocks = subst (λ ls. AreBlocks batch_entries (map batch_line ls) blocks) (sym same) are;
+  are_blocks = subst (λ ls. AreBlocks line_entries (map batch_line ls) blocks) (sym same) are;
   joined = refl;
   ends = refl;
 }
 
-cuts_block : (first sink next_sink : SinkSeen) (lines : List (List ℕ)) (line : List ℕ) (blocks : List Block) (b : Block) → AreBlocks batch_entries (map batch_line lines) blocks → AreBlocks batch_entries (batch_line line ∷ []) (b ∷ [])
+cuts_block : (first sink next_sink : SinkSeen) (lines : List (List ℕ)) (line : List ℕ) (blocks : List Block) (b : Block) → AreBlocks line_entries (map batch_line lines) blocks → AreBlocks line_entries (batch_line line ∷ []) (b ∷ [])
     → Appends first sink (batch_text blocks) → AppendsPrefix sink next_sink (separator (is_none blocks) ++ b.0)
     → CutsBlock first next_sink (map batch_line (lines ++ line ∷ []))
 cuts_block first sink next_sink lines line blocks b are is_last appended cut = record {
@@ -389,7 +389,7 @@ put_nothing first sink next_sink text appended cut =
     (ap (λ xs. text ++ xs) (no_front cut.front cut.is_prefix.rest cut.is_prefix.joined) ∙ append-nil text) (Appends-then appended cut.appends)
 
 finish_cut : {first sink next_sink : SinkSeen} {source now : SourceSeen} (Untouched : Type 0) {lines : List (List ℕ)} {piece : List ℕ} (blocks : List Block)
-    → AreBlocks batch_entries (map batch_line lines) blocks → Appends first sink (batch_text blocks) → sink.faults ≡ first.faults
+    → AreBlocks line_entries (map batch_line lines) blocks → Appends first sink (batch_text blocks) → sink.faults ≡ first.faults
     → Puts true sink false next_sink [] → Cut source.left now.left lines piece → HasLineAtMost piece → source.faults ≤ now.faults
     → EndsBatch first next_sink source now Untouched status.SinkFault
 finish_cut {first = first} {sink = sink} {next_sink = next_sink} {source = source} {now = now} Untouched {lines = lines} {piece = piece} blocks are appended still puts front at_most later = record {
@@ -472,7 +472,7 @@ ends_last {first = first} {sink = sink} {next_sink = next_sink} {source = source
         let cut = read_cut source.left before.left now.left t.taken pending r.spelled r.lines had r.read r.is_spelled r.is_whole t.took in
         subst (EndsBatch first next_sink source now Untouched) (sym (same_status ∙ is ∙ end_same progress r.blocks r.is_done))
         (record {
-          leaves = leaves_ending first next_sink source now Untouched (Unit {0}) (RunsInput batch_entries) whole.input (batch_text r.blocks) ending
+          leaves = leaves_ending first next_sink source now Untouched (Unit {0}) (RunsInput line_entries) whole.input (batch_text r.blocks) ending
               whole.is_input (runs_input whole.input r.lines r.blocks r.are_blocks whole.are) (λ e. tt)
               (finished_text first sink next_sink (batch_text r.blocks) r.appended puts) (settles refl);
           faults = no_faults (ends_well ending) (puts.still refl ∙ r.still) (same ∙ r.source_still);

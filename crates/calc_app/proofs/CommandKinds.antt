@@ -16,7 +16,7 @@ use Rattle.sym_model.specs.Outcome.{Answers, Expands, MayBeLarge}
 use Rattle.rim_hooks.proofs.TextsInSteps.{quantum_reads-steps, fusion_reads-steps}
 use Rattle.calc_words.specs.WrittenLimits.{IsWritten, KeepsLimits}
 use Rattle.word_laws.proofs.LongestPrefixes.{each_in}
-use Rattle.calc_language.specs.BuiltCommands.{batch_entries}
+use Rattle.sym_model.specs.Grammar.{line_entries}
 use Rattle.calc_replies.specs.Computed.{Tells}
 use Rattle.calc_app.specs.Top.{IsInput, Says, SaysOver, IsOnlyText}
 use Rattle.sym_model.specs.Partition.{ArePartitions}
@@ -25,8 +25,8 @@ use Rattle.sym_model.specs.Partition.{ArePartitions}
 pub record NamesExpansion (command : Command) : Type 0 where
   pub answers : (text : List ℕ) (ending : Ending) → Expands command text ending → Answers command text ending
   pub expands : (text : List ℕ) (ending : Ending) → Answers command text ending → Expands command text ending
-  pub over : (input text : List ℕ) (ending : Ending) → Answers command text ending → AnswersWith batch_entries input command text ending
-  pub alone : (input text : List ℕ) (ending : Ending) → AnswersWith batch_entries input command text ending → Answers command text ending
+  pub over : (input text : List ℕ) (ending : Ending) → Answers command text ending → AnswersWith line_entries input command text ending
+  pub alone : (input text : List ℕ) (ending : Ending) → AnswersWith line_entries input command text ending → Answers command text ending
   pub untold : (text : List ℕ) → Tells command text → ⊥
   pub says : (text : List ℕ) → KeepsLimits command → ReadsBack command text → Says command text
   pub says_over : (left : Option (List ℕ)) (text : List ℕ) → Says command text → SaysOver left command text
@@ -34,8 +34,8 @@ pub record NamesExpansion (command : Command) : Type 0 where
 -- the command prints lines that are not terms: tableaux, words or grids (`tab`, `rsk`, `unrsk`, `rect` or `growth`)
 pub record TellsLines (command : Command) : Type 0 where
   pub answers : (text : List ℕ) → Tells command text → Answers command text done
-  pub over : (input text : List ℕ) (ending : Ending) → Answers command text ending → AnswersWith batch_entries input command text ending
-  pub alone : (input text : List ℕ) (ending : Ending) → AnswersWith batch_entries input command text ending → Answers command text ending
+  pub over : (input text : List ℕ) (ending : Ending) → Answers command text ending → AnswersWith line_entries input command text ending
+  pub alone : (input text : List ℕ) (ending : Ending) → AnswersWith line_entries input command text ending → Answers command text ending
   pub unnamed : (answer : PlainAnswer) → Meets command answer → ⊥
   pub small : MayBeLarge command → ⊥
   pub says : (text : List ℕ) → Answers command text done → Says command text
@@ -48,7 +48,7 @@ pub record RunsOthers (command : Command) : Type 0 where
   pub small : MayBeLarge command → ⊥
   pub untold : (text : List ℕ) → Tells command text → ⊥
   pub says_over : (left : Option (List ℕ)) (input text : List ℕ) → IsInput left input
-      → AnswersWith batch_entries input command text done → SaysOver left command text
+      → AnswersWith line_entries input command text done → SaysOver left command text
 
 not_large : (command : Command) → ((c : ℤ) → IsDefinedCoefficient command c → ⊥) → ((weight : ℕ) → HasWeight command weight → ⊥)
     → MayBeLarge command → ⊥

@@ -9,8 +9,7 @@ use Rattle.calc_base.specs.Puts.{Puts}
 use Rattle.calc_base.proofs.PutsLaws.{Appends-told}
 use Rattle.calc_base.specs.Sink.{SinkSeen, number_after, Appends}
 use Rattle.calc_base.specs.Source.{SourceSeen}
-use Rattle.calc_language.specs.BuiltCommands.{command_entries, batch_entries}
-use Rattle.calc_language.proofs.Entries.{kept_by_all}
+use Rattle.calc_words.proofs.WrittenCommands.{words_keep}
 use Rattle.calc_words.specs.WrittenLimits.{KeepsLimits}
 use Rattle.word_laws.proofs.LongestPrefixes.{some_in, some_out}
 use Rattle.sym_model.proofs.Sums.{Among-append_left}
@@ -20,7 +19,7 @@ use Rattle.sym_model.specs.Command.{Command, batch}
 use Rattle.sym_model.specs.CommandOffence.{Offence}
 use Rattle.sym_model.specs.Ending.{Ending, done, some_refused, syntax, range, past}
 use Rattle.sym_model.specs.Entry.{Entry, SpellsFreely, SpellsWithoutOffence, HasFirstOffence}
-use Rattle.sym_model.specs.Grammar.{batch_entry, work_entry}
+use Rattle.sym_model.specs.Grammar.{all_entries, line_entries, batch_entry, work_entry}
 use Rattle.sym_model.specs.Outcome.{IsLineOutcome}
 use Rattle.sym_model.specs.SyntaxPlace.{IsSyntaxPlace}
 use Rattle.calc_replies.specs.declared.outcome.Outcome.{Outcome}
@@ -36,14 +35,14 @@ use Rattle.std.proofs.lemmas.Bool.{cases_cond}
 -- the clauses that `task_of` ensures of the task that it returns for the words
 pub record HasTask (words : List (List ℕ)) (task : Task) : Type 0 where
   pub computes : IsTaskFor words (Ok task)
-  pub accepts : (command : Command) → SpellsWithoutOffence command_entries words command → AcceptsTask command (Ok task)
-  pub refuses : (offence : Offence) → HasFirstOffence command_entries words (Some offence) → RefusesTask offence (Ok task)
-  pub goes_wrong : (word byte : ℕ) → IsSyntaxPlace command_entries words word byte → TaskGoesWrong word byte (Ok task)
+  pub accepts : (command : Command) → SpellsWithoutOffence all_entries words command → AcceptsTask command (Ok task)
+  pub refuses : (offence : Offence) → HasFirstOffence all_entries words (Some offence) → RefusesTask offence (Ok task)
+  pub goes_wrong : (word byte : ℕ) → IsSyntaxPlace all_entries words word byte → TaskGoesWrong word byte (Ok task)
 
 pub task_is : {words : List (List ℕ)} {found task : Task} → found ≡ task → IsTaskFor words (Ok found)
-    → ((command : Command) → SpellsWithoutOffence command_entries words command → AcceptsTask command (Ok found))
-    → ((offence : Offence) → HasFirstOffence command_entries words (Some offence) → RefusesTask offence (Ok found))
-    → ((word byte : ℕ) → IsSyntaxPlace command_entries words word byte → TaskGoesWrong word byte (Ok found)) → HasTask words task
+    → ((command : Command) → SpellsWithoutOffence all_entries words command → AcceptsTask command (Ok found))
+    → ((offence : Offence) → HasFirstOffence all_entries words (Some offence) → RefusesTask offence (Ok found))
+    → ((word byte : ℕ) → IsSyntaxPlace all_entries words word byte → TaskGoesWrong word byte (Ok found)) → HasTask words task
 task_is {words = words} is computes accepts refuses goes_wrong =
     subst (HasTask words) is (record { computes = computes; accepts = accepts; refuses = refuses; goes_wrong = goes_wrong })
 
@@ -93,7 +92,7 @@ put_faults words old new source outcome result task p = by p.well p.puts p.is
     by : (well : Bool) → Puts true old well new (text_of outcome) → result ≡ cond well (status_for outcome) status.SinkFault
         → HidesNoFault old new source source result
     by true puts is =
-        let has = has_outcome command_entries words outcome task.computes p.printable in
+        let has = has_outcome all_entries words outcome task.computes p.printable in
         subst (HidesNoFault old new source source) (sym (is ∙ has.same)) (no_faults (ends_well has.ending) (puts.still refl) refl)
     by false puts is = subst (HidesNoFault old new source source) (sym is) (sink_failed (puts.rose refl refl) puts.later (omega arith))
 
@@ -113,12 +112,12 @@ put_ran words old new source Untouched outcome result task p =
 
 -- ---- the clauses of `run` after lines were run
 
-runs_outcome : (words : List (List ℕ)) (input text : List ℕ) (ending : Ending) → RunsLines words → RunsInput batch_entries input text ending
+runs_outcome : (words : List (List ℕ)) (input text : List ℕ) (ending : Ending) → RunsLines words → RunsInput line_entries input text ending
     → IsOutcome words input text ending
 runs_outcome words input text ending spelled runs = inr (inr (batch, spelled, runs))
 
 whole_leave : (words : List (List ℕ)) {old new : SinkSeen} {source : SourceSeen} (ending : Ending) → RunsLines words
-    → PutsWhole old new source (RunsInput batch_entries) ending → PutsWhole old new source (IsOutcome words) ending
+    → PutsWhole old new source (RunsInput line_entries) ending → PutsWhole old new source (IsOutcome words) ending
 whole_leave words ending runs l = record {
   input = l.input;
   is_input = l.is_input;
@@ -129,7 +128,7 @@ whole_leave words ending runs l = record {
 }
 
 lines_leave : (words : List (List ℕ)) (old new : SinkSeen) (source now : SourceSeen) (Untouched : Type 0) (result : Status) → RunsLines words
-    → Leaves old new source now Untouched (Unit {0}) (RunsInput batch_entries) result
+    → Leaves old new source now Untouched (Unit {0}) (RunsInput line_entries) result
     → Leaves old new source now Untouched (RunsLines words) (IsOutcome words) result
 lines_leave words old new source now Untouched status.Done runs l = whole_leave words done runs l
 lines_leave words old new source now Untouched status.SomeRefused runs l = (runs, whole_leave words some_refused runs l.1)
@@ -194,7 +193,7 @@ no_past (inl e) = cc
 no_past (inr e) = cc
 
 lines_end : (old new : SinkSeen) (source now : SourceSeen) (Untouched : Type 0) (result : Status)
-    → Leaves old new source now Untouched (Unit {0}) (RunsInput batch_entries) result → IsAccepted batch result
+    → Leaves old new source now Untouched (Unit {0}) (RunsInput line_entries) result → IsAccepted batch result
 lines_end old new source now Untouched status.Done l = inl refl
 lines_end old new source now Untouched status.SomeRefused l = inr (inr (inr (refl, inl refl)))
 lines_end old new source now Untouched status.Syntax l = absurd (no_syntax (not_so l.outcome.blocks syntax l.outcome.ends))
@@ -206,18 +205,18 @@ lines_end old new source now Untouched status.NoMemory l = inr (inr (inl (inl re
 
 -- ---- the blocks of the lines of a batch are the answers to the commands of the lines
 
-kept_in_line : (words : List (List ℕ)) (command : Command) → SpellsWithoutOffence batch_entries words command → KeepsLimits command
+kept_in_line : (words : List (List ℕ)) (command : Command) → SpellsWithoutOffence line_entries words command → KeepsLimits command
 kept_in_line words command spelled =
     let spells : Entry → Type 0 = λ e. SpellsFreely e words command in
-    let at = some_out spells batch_entries spelled in
-    kept_by_all words command (some_in spells at.0 command_entries (Among-append_left at.0 batch_entries (batch_entry ∷ work_entry ∷ []) at.1) at.2)
+    let at = some_out spells line_entries spelled in
+    words_keep words command (some_in spells at.0 all_entries (Among-append_left at.0 line_entries (batch_entry ∷ work_entry ∷ []) at.1) at.2)
 
-line_says : (words : List (List ℕ)) (text : List ℕ) → IsLineOutcome batch_entries words text done → SaysLine words text
+line_says : (words : List (List ℕ)) (text : List ℕ) → IsLineOutcome line_entries words text done → SaysLine words text
 line_says words text (inl wrong) = let clash : done ≡ syntax = wrong.1 in cc
 line_says words text (inr (inl offends)) = absurd (not_done offends.offence.2 offends.ends)
 line_says words text (inr (inr comes)) = record { command = comes.0; spelled = comes.1; says = answers_say comes.0 text (kept_in_line words comes.0 comes.1) comes.2 }
 
-say_lines : (lines : List BatchLine) (blocks : List Block) → AreBlocks batch_entries lines blocks → SayLines lines blocks
+say_lines : (lines : List BatchLine) (blocks : List Block) → AreBlocks line_entries lines blocks → SayLines lines blocks
 say_lines [] [] are = tt
 say_lines [] (b ∷ blocks) are = tt
 say_lines (passed_over ∷ lines) blocks are = say_lines lines blocks are
@@ -225,9 +224,9 @@ say_lines (too_long ∷ lines) [] are = tt
 say_lines (too_long ∷ lines) (b ∷ blocks) are = say_lines lines blocks are.1
 say_lines (spoken words ∷ lines) [] are = tt
 say_lines (spoken words ∷ lines) (b ∷ blocks) are =
-    ((λ is. line_says words b.0 (subst (IsLineOutcome batch_entries words b.0) is are.0)), say_lines lines blocks are.1)
+    ((λ is. line_says words b.0 (subst (IsLineOutcome line_entries words b.0) is are.0)), say_lines lines blocks are.1)
 
-whole_prints : {old new : SinkSeen} {source : SourceSeen} (ending : Ending) (before : List ℕ) → PutsWhole old new source (RunsInput batch_entries) ending
+whole_prints : {old new : SinkSeen} {source : SourceSeen} (ending : Ending) (before : List ℕ) → PutsWhole old new source (RunsInput line_entries) ending
     → old.written ≡ Some before → PrintsLines before source.left new.written
 whole_prints ending before l told = record {
   input = l.input;
@@ -239,12 +238,12 @@ whole_prints ending before l told = record {
 }
 
 lines_print : (old new : SinkSeen) (source now : SourceSeen) (Untouched : Type 0) (result : Status)
-    → Leaves old new source now Untouched (Unit {0}) (RunsInput batch_entries) result
+    → Leaves old new source now Untouched (Unit {0}) (RunsInput line_entries) result
     → IsThrough result → (before : List ℕ) → old.written ≡ Some before → PrintsLines before source.left new.written
 lines_print old new source now Untouched result leaves (inl is) before told =
-    whole_prints done before (subst (Leaves old new source now Untouched (Unit {0}) (RunsInput batch_entries)) is leaves) told
+    whole_prints done before (subst (Leaves old new source now Untouched (Unit {0}) (RunsInput line_entries)) is leaves) told
 lines_print old new source now Untouched result leaves (inr is) before told =
-    whole_prints some_refused before (subst (Leaves old new source now Untouched (Unit {0}) (RunsInput batch_entries)) is leaves).1 told
+    whole_prints some_refused before (subst (Leaves old new source now Untouched (Unit {0}) (RunsInput line_entries)) is leaves).1 told
 
 pub lines_ran : (words : List (List ℕ)) (old new : SinkSeen) (source now : SourceSeen) (Untouched : Type 0) (result : Status)
     → HasTask words Lines → EndsBatch old new source now Untouched result → Ran words old new source now Untouched result

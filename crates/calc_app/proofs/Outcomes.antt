@@ -9,8 +9,8 @@ use Rattle.calc_base.specs.declared.words.WordsFault.TheVariants as fault
 use Rattle.calc_base.proofs.PutsLaws.{Appends-told}
 use Rattle.calc_base.specs.Sink.{SinkSeen, Appends, AppendsPrefix}
 use Rattle.calc_base.specs.Source.{SourceSeen}
-use Rattle.calc_language.specs.BuiltCommands.{command_entries, batch_entries}
-use Rattle.calc_language.proofs.Entries.{kept_by_all}
+use Rattle.sym_model.specs.Grammar.{all_entries, line_entries}
+use Rattle.calc_words.proofs.WrittenCommands.{words_keep}
 use Rattle.calc_words.specs.WrittenLimits.{KeepsLimits}
 use Rattle.calc_language.specs.Reading.{IsFaultOf}
 use Rattle.expansion_printer.specs.declared.answer.Answer.{Answer}
@@ -130,15 +130,15 @@ has_outcome entries words (Told lines) computes block = record {
 }
 
 answers_alone : (input : List ℕ) (command : Command) (text : List ℕ) (ending : Ending) → Answers command text ending
-    → AnswersWith batch_entries input command text ending
+    → AnswersWith line_entries input command text ending
 answers_alone input command text ending answers = by (kind command)
   where
-    by : NamesExpansion command ⊎ TellsLines command ⊎ RunsOthers command → AnswersWith batch_entries input command text ending
+    by : NamesExpansion command ⊎ TellsLines command ⊎ RunsOthers command → AnswersWith line_entries input command text ending
     by (inl k) = k.over input text ending answers
     by (inr (inl k)) = k.over input text ending answers
     by (inr (inr k)) = absurd (k.unanswered text ending answers)
 
-alone : (words : List (List ℕ)) (input text : List ℕ) (ending : Ending) → IsLineOutcome command_entries words text ending
+alone : (words : List (List ℕ)) (input text : List ℕ) (ending : Ending) → IsLineOutcome all_entries words text ending
     → IsOutcome words input text ending
 alone words input text ending (inl wrong) = inl wrong
 alone words input text ending (inr (inl offends)) = inr (inl offends)
@@ -185,11 +185,11 @@ no_front None = tt
 no_front (Some bytes) = (lines_of bytes, refl)
 
 pub leaves_whole : (old new : SinkSeen) (source now : SourceSeen) (Untouched : Type 0) (words : List (List ℕ)) (outcome : Outcome) (answer : Status)
-    → Computes command_entries words (Ok outcome) → HasBlock outcome
+    → Computes all_entries words (Ok outcome) → HasBlock outcome
     → answer ≡ status_for outcome → Appends old new (text_of outcome) → new.settled ≡ true
     → Leaves old new source now Untouched (RunsLines words) (IsOutcome words) answer
 leaves_whole old new source now Untouched words outcome answer computes block is appended is_settled =
-    let has = has_outcome command_entries words outcome computes block in
+    let has = has_outcome all_entries words outcome computes block in
     let told = told_input source.left in
     subst (Leaves old new source now Untouched (RunsLines words) (IsOutcome words)) (sym (is ∙ has.same))
     (leaves_ending old new source now Untouched (RunsLines words) (IsOutcome words) told.0 (text_of outcome) has.ending
@@ -197,10 +197,10 @@ leaves_whole old new source now Untouched words outcome answer computes block is
     (λ e. absurd (no_some_refused outcome (has.same ∙ e))) appended is_settled)
 
 pub leaves_prefix : (old new : SinkSeen) (source : SourceSeen) (words : List (List ℕ)) (outcome : Outcome)
-    → Computes command_entries words (Ok outcome) → HasBlock outcome → AppendsPrefix old new (text_of outcome)
+    → Computes all_entries words (Ok outcome) → HasBlock outcome → AppendsPrefix old new (text_of outcome)
     → PutsPrefix old new source (IsOutcome words)
 leaves_prefix old new source words outcome computes block appended =
-    let has = has_outcome command_entries words outcome computes block in
+    let has = has_outcome all_entries words outcome computes block in
     record {
       front = [];
       is_front = no_front source.left;
@@ -238,7 +238,7 @@ answers_say command text keeps answers = by (kind command)
     by (inr (inr k)) = absurd (k.unanswered text done answers)
 
 answers_with_say : (told : Option (List ℕ)) (input : List ℕ) (command : Command) (text : List ℕ) → IsInput told input → KeepsLimits command
-    → AnswersWith batch_entries input command text done → SaysOver told command text
+    → AnswersWith line_entries input command text done → SaysOver told command text
 answers_with_say told input command text is_input keeps answers = by (kind command)
   where
     by : NamesExpansion command ⊎ TellsLines command ⊎ RunsOthers command → SaysOver told command text
@@ -268,7 +268,7 @@ headline old new source now Untouched words answer leaves ended before told =
       appended = appended;
       command = comes.0;
       spelled = comes.1;
-      says = answers_with_say source.left input comes.0 text is_input (kept_by_all words comes.0 comes.1) comes.2;
+      says = answers_with_say source.left input comes.0 text is_input (words_keep words comes.0 comes.1) comes.2;
     }
 
 -- ---- the clause `answers`: the words are accepted, or the line that is written names their first error

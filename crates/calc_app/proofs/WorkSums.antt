@@ -10,8 +10,8 @@ use Rattle.calc_base.specs.declared.status.Status.TheVariants as status
 use Rattle.calc_base.specs.Puts.{Puts}
 use Rattle.calc_base.specs.Sink.{SinkSeen}
 use Rattle.calc_base.specs.Source.{SourceSeen}
-use Rattle.calc_language.proofs.Entries.{kept_by_all}
-use Rattle.calc_language.specs.BuiltCommands.{command_entries, batch_entries}
+use Rattle.calc_words.proofs.WrittenCommands.{words_keep}
+use Rattle.sym_model.specs.Grammar.{all_entries, line_entries}
 use Rattle.sym_model.specs.BatchLine.{BatchLine, batch_line}
 use Rattle.sym_model.specs.BatchOutcome.{Block, AreBlocks, RunsWorkload}
 use Rattle.sym_model.specs.Command.{Command, batch, work}
@@ -57,7 +57,7 @@ pub record SoFar (lines seed index state : ℕ) (sums : Sums) : Type 0 where
   pub count : rest + index ≡ lines
   pub all : ran ++ work_lines rest state ≡ work_lines lines seed
   pub blocks : List Block
-  pub are : AreBlocks batch_entries (map batch_line ran) blocks
+  pub are : AreBlocks line_entries (map batch_line ran) blocks
   pub added : sums ≡ sums_more (sums_over []) (texts_of blocks)
   pub small : AreSmall sums
   pub few : sums.lines ≤ index
@@ -98,8 +98,8 @@ one_ran lines seed index state sums line next more s below is after within adds 
           ∙ all;
       blocks = s.blocks ++ adds.blocks;
       are =
-          subst (λ ls. AreBlocks batch_entries ls (s.blocks ++ adds.blocks)) (sym (map-append batch_line s.ran (line ∷ [])))
-          (more_blocks batch_entries (map batch_line s.ran) (batch_line line ∷ []) s.blocks adds.blocks s.are adds.are);
+          subst (λ ls. AreBlocks line_entries ls (s.blocks ++ adds.blocks)) (sym (map-append batch_line s.ran (line ∷ [])))
+          (more_blocks line_entries (map batch_line s.ran) (batch_line line ∷ []) s.blocks adds.blocks s.are adds.are);
       added =
           adds.added ∙ ap (λ (x : Sums). sums_more x (texts_of adds.blocks)) s.added
           ∙ sums_more-append (sums_over []) (texts_of s.blocks) (texts_of adds.blocks)
@@ -139,21 +139,21 @@ all_ran lines seed index state sums s above = by s.rest s.count s.all
     by : (rest : ℕ) → rest + index ≡ lines → s.ran ++ work_lines rest state ≡ work_lines lines seed → AreSumsOf lines seed sums
     by zero count all = record {
       blocks = s.blocks;
-      are = subst (λ ls. AreBlocks batch_entries (map batch_line ls) s.blocks) (sym (append-nil s.ran) ∙ all) s.are;
+      are = subst (λ ls. AreBlocks line_entries (map batch_line ls) s.blocks) (sym (append-nil s.ran) ∙ all) s.are;
       sum_up = s.added ∙ over_all (texts_of s.blocks);
     }
     by (suc rest) count all = absurd (omega (arith, count, above))
 
 -- ---- the ways in which `work` ends: the sums were written, or the sink failed
 
-pub seed_within : (words : List (List ℕ)) (lines seed : ℕ) → SpellsWithoutOffence command_entries words (work lines seed) → seed ≤ 65536
-seed_within words lines seed spelled = (kept_by_all words (work lines seed) spelled).2
+pub seed_within : (words : List (List ℕ)) (lines seed : ℕ) → SpellsWithoutOffence all_entries words (work lines seed) → seed ≤ 65536
+seed_within words lines seed spelled = (words_keep words (work lines seed) spelled).2
 
-runs_work : (lines seed : ℕ) (sums : Sums) → AreSumsOf lines seed sums → RunsWorkload batch_entries lines seed (sums_text sums)
+runs_work : (lines seed : ℕ) (sums : Sums) → AreSumsOf lines seed sums → RunsWorkload line_entries lines seed (sums_text sums)
 runs_work lines seed sums are = record { blocks = are.blocks; are_blocks = are.are; summed = ap sums_text are.sum_up }
 
 work_leaves : (words : List (List ℕ)) (old new : SinkSeen) (source : SourceSeen) (Untouched : Type 0) (lines seed : ℕ) (result : Status)
-    → SpellsWithoutOffence command_entries words (work lines seed) → EndsWork old new Untouched lines seed result
+    → SpellsWithoutOffence all_entries words (work lines seed) → EndsWork old new Untouched lines seed result
     → Leaves old new source source Untouched (RunsLines words) (IsOutcome words) result
 work_leaves words old new source Untouched lines seed result spelled (inl full) =
     subst (Leaves old new source source Untouched (RunsLines words) (IsOutcome words)) (sym full.0) (inl full.1)

@@ -13,7 +13,7 @@ use Rattle.calc_base.specs.declared.words.WordsFault.{WordsFault}
 use Rattle.calc_base.specs.Fault.{Rose}
 use Rattle.calc_base.specs.Sink.{SinkSeen}
 use Rattle.calc_base.specs.Source.{SourceSeen}
-use Rattle.calc_language.specs.BuiltCommands.{batch_entries}
+use Rattle.sym_model.specs.Grammar.{line_entries}
 use Rattle.calc_language.specs.Reading.{IsFaultOf}
 use Rattle.sym_model.specs.BatchLine.{BatchLine, too_long, passed_over, spoken, batch_line}
 use Rattle.sym_model.specs.BatchLine.{too_long_offence}
@@ -41,7 +41,7 @@ ComesOfLine too_long (Some outcome) = RefusesLong outcome
 ComesOfLine passed_over None = Unit {0}
 ComesOfLine passed_over (Some outcome) = ⊥
 ComesOfLine (spoken words) None = ⊥
-ComesOfLine (spoken words) (Some outcome) = Computes batch_entries words (Ok outcome)
+ComesOfLine (spoken words) (Some outcome) = Computes line_entries words (Ok outcome)
 
 -- the result `turn` of reading a line: `Passed` for a skipped line, `Block` with the outcome of a line that is not
 -- skipped, also if it is too long, and `Last` at the end
@@ -86,7 +86,7 @@ CountsTurn before now (Err line_fault.NoMemory) = now ≡ before
 -- the lines that were read to those whose blocks were written. Whether the source records the bytes that it has left is unchanged.
 pub record EndsBatch (old new : SinkSeen) (source now : SourceSeen) (Untouched : Type 0)
     (result : Status) : Type 0 where
-  pub leaves : Leaves old new source now Untouched (Unit {0}) (RunsInput batch_entries) result
+  pub leaves : Leaves old new source now Untouched (Unit {0}) (RunsInput line_entries) result
   pub faults : HidesNoFault old new source now result
   pub all_read : IsThrough result → IsEmptied now.left
   pub cut : result ≡ status.SinkFault → CutsLines old new source now

@@ -23,7 +23,7 @@ use Rattle.sym_model.specs.Command.{work}
 use Rattle.sym_model.specs.CommandOffence.{Offence}
 use Rattle.sym_model.specs.Ending.{Ending, done, some_refused, syntax, range, past}
 use Rattle.sym_model.specs.Entry.{SpellsWithoutOffence, HasFirstOffence}
-use Rattle.calc_language.specs.BuiltCommands.{command_entries, batch_entries}
+use Rattle.sym_model.specs.Grammar.{all_entries, line_entries}
 use Rattle.calc_replies.specs.Computed.{text_of, HasBlock, status_for}
 use Rattle.calc_replies.specs.declared.outcome.Outcome.{Outcome}
 use Rattle.sym_model.specs.Headline.{ReadsBack}
@@ -37,11 +37,11 @@ use Rattle.rim_hooks.specs.PrintedSteps.{ReadsReducedInSteps, ReadsReflectedInSt
 -- the text and the ending are an outcome of the words, if `input` is what the source has left
 abbrev pub IsOutcome : List (List ℕ) → List ℕ → List ℕ → Ending → Type 0
 IsOutcome words input text ending =
-    IsOutcomeOf command_entries batch_entries words input text ending
+    IsOutcomeOf all_entries line_entries words input text ending
 
 -- the words spell `batch`, the command that runs the lines of its input
 abbrev pub RunsLines : List (List ℕ) → Type 0
-RunsLines words = SpellsWithoutOffence command_entries words batch
+RunsLines words = SpellsWithoutOffence all_entries words batch
 
 -- `input` is all that the source has left, if the source records what it has left
 abbrev pub IsInput : Option (List ℕ) → List ℕ → Type 0
@@ -195,8 +195,8 @@ Says command text = ReadsBack command text × IsOnlyText command text
 -- as in `Says`.
 abbrev pub SaysOver : Option (List ℕ) → Command → List ℕ → Type 0
 SaysOver left batch text =
-    (input : List ℕ) × IsInput left input × RunsInput batch_entries input text done
-SaysOver left (work lines seed) text = RunsWorkload batch_entries lines seed text
+    (input : List ℕ) × IsInput left input × RunsInput line_entries input text done
+SaysOver left (work lines seed) text = RunsWorkload line_entries lines seed text
 SaysOver left command text = Says command text
 
 -- The clause `headline`: the words spell a command without an error, and the text that was appended to the bytes written before is the answer to this
@@ -209,14 +209,14 @@ pub record PrintsAnswerTo (words : List (List ℕ)) (before : List ℕ)
   pub text : List ℕ
   pub appended : now ≡ Some (before ++ text)
   pub command : Command
-  pub spelled : SpellsWithoutOffence command_entries words command
+  pub spelled : SpellsWithoutOffence all_entries words command
   pub says : SaysOver left command text
 
 -- the words of a line of a batch spell a command without an error, and the text of the block is the answer to this
 -- command
 pub record SaysLine (words : List (List ℕ)) (text : List ℕ) : Type 0 where
   pub command : Command
-  pub spelled : SpellsWithoutOffence batch_entries words command
+  pub spelled : SpellsWithoutOffence line_entries words command
   pub says : Says command text
 
 -- the text of each block whose ending is `done` is the answer to the command of its line
@@ -235,7 +235,7 @@ pub record PrintsLines (before : List ℕ) (left now : Option (List ℕ)) : Type
   pub is_input : IsInput left input
   pub blocks : List Block
   pub appended : now ≡ Some (before ++ batch_text blocks)
-  pub are_blocks : AreBlocks batch_entries (map batch_line (lines_of input)) blocks
+  pub are_blocks : AreBlocks line_entries (map batch_line (lines_of input)) blocks
   pub say : SayLines (map batch_line (lines_of input)) blocks
 
 -- ---- the clause `cut`: a batch whose sink failed
@@ -248,8 +248,8 @@ pub record CutsBlock (old new : SinkSeen) (lines : List BatchLine) : Type 0 wher
   pub lines_are : lines ≡ earlier ++ line ∷ []
   pub blocks : List Block
   pub last : Block
-  pub are_blocks : AreBlocks batch_entries earlier blocks
-  pub is_last : AreBlocks batch_entries (line ∷ []) (last ∷ [])
+  pub are_blocks : AreBlocks line_entries earlier blocks
+  pub is_last : AreBlocks line_entries (line ∷ []) (last ∷ [])
   pub shown : List ℕ
   pub is_shown : IsPrefix (batch_text blocks ++ shown) (batch_text (blocks ++ last ∷ []))
   pub appended : Appends old new (batch_text blocks ++ shown)
@@ -258,7 +258,7 @@ pub record CutsBlock (old new : SinkSeen) (lines : List BatchLine) : Type 0 wher
 -- them
 pub record PutsBlocks (old new : SinkSeen) (lines : List BatchLine) : Type 0 where
   pub blocks : List Block
-  pub are_blocks : AreBlocks batch_entries lines blocks
+  pub are_blocks : AreBlocks line_entries lines blocks
   pub appended : Appends old new (batch_text blocks)
 
 -- The state after a fault of the sink in a batch. The lines of `front` were read, all completely. Either the blocks
@@ -302,11 +302,11 @@ pub record IsRefused (ending : Ending) (IsPut : Type 0) (status : Status) : Type
 -- is written, with the first place that is wrong.
 pub record AnswersWords (words : List (List ℕ)) (IsPut : List ℕ → Type 0)
     (status : Status) : Type 0 where
-  pub accepted : (command : Command) → SpellsWithoutOffence command_entries words command
+  pub accepted : (command : Command) → SpellsWithoutOffence all_entries words command
       → IsAccepted command status
-  pub offended : (offence : Offence) → HasFirstOffence command_entries words (Some offence)
+  pub offended : (offence : Offence) → HasFirstOffence all_entries words (Some offence)
       → IsRefused (ending_of offence.2) (IsPut (offence_line offence)) status
-  pub no_command : (word byte : ℕ) → IsSyntaxPlace command_entries words word byte
+  pub no_command : (word byte : ℕ) → IsSyntaxPlace all_entries words word byte
       → IsRefused syntax (IsPut (refusal_line (codes "Syntax") word byte)) status
 
 -- ---- an outcome written to the sink

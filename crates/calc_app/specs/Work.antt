@@ -6,7 +6,7 @@ use Rattle.calc_base.specs.declared.status.Status.TheVariants as status
 use Rattle.calc_base.specs.Puts.{Puts}
 use Rattle.calc_base.specs.Sink.{SinkSeen}
 use Rattle.batch_lines.specs.Ends.{status_where}
-use Rattle.calc_language.specs.BuiltCommands.{batch_entries}
+use Rattle.sym_model.specs.Grammar.{line_entries}
 use Rattle.sym_model.specs.BatchLine.{BatchLine, batch_line}
 use Rattle.sym_model.specs.BatchOutcome.{Block, AreBlocks}
 use Rattle.sym_model.specs.Workload.{work_lines}
@@ -25,7 +25,7 @@ sums_more s (text ∷ texts) = sums_more (sums_with s text) texts
 -- the block of the line was added to the sums; nothing was added if the line is skipped
 pub record AddsLine (line : BatchLine) (old new : Sums) : Type 0 where
   pub blocks : List Block
-  pub are : AreBlocks batch_entries (line ∷ []) blocks
+  pub are : AreBlocks line_entries (line ∷ []) blocks
   pub added : new ≡ sums_more old (texts_of blocks)
   pub small : AreSmall new
   pub one : new.lines ≤ old.lines + 1
@@ -33,7 +33,7 @@ pub record AddsLine (line : BatchLine) (old new : Sums) : Type 0 where
 -- `sums` are the sums over the blocks of the first `lines` lines that are generated from `seed`
 pub record AreSumsOf (lines seed : ℕ) (sums : Sums) : Type 0 where
   pub blocks : List Block
-  pub are : AreBlocks batch_entries (map batch_line (work_lines lines seed)) blocks
+  pub are : AreBlocks line_entries (map batch_line (work_lines lines seed)) blocks
   pub sum_up : sums ≡ sums_over (texts_of blocks)
 
 -- The text of the sums was written, `finish` succeeded, and the result is `Done`; or the sink failed, and the result

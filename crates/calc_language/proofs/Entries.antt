@@ -5,9 +5,8 @@ use Rattle.std.specs.Prelude.{IfOk, codes}
 use Rattle.sym_model.specs.Sum.{Among}
 use Rattle.sym_model.specs.Polynomial.{same}
 use Rattle.sym_model.specs.Form.{EachOf}
-use Rattle.sym_model.specs.Command.{Command as PlainCommand}
-use Rattle.sym_model.specs.Entry.{Entry, SpellsWithoutOffence}
-use Rattle.sym_model.specs.Grammar.{entries_of, all_bases, batch_entry, work_entry}
+use Rattle.sym_model.specs.Entry.{Entry}
+use Rattle.sym_model.specs.Grammar.{all_entries, line_entries, batch_entry, work_entry}
 use Rattle.sym_model.specs.SyntaxPlace.{IsSyntaxPlace}
 use Rattle.sym_model.proofs.Exponents.{same_true, same_from, same_apart}
 use Rattle.sym_model.proofs.Sums.{Among_from_append, Among-append_left}
@@ -18,11 +17,9 @@ use Rattle.calc_base.specs.declared.words.WordsFault.{WordsFault}
 use Rattle.calc_base.specs.declared.words.WordsFault.TheVariants.{Syntax}
 use Rattle.calc_words.specs.declared.command.Command.{Command}
 use Rattle.calc_words.specs.Reading.{IsRead as IsReadBy}
-use Rattle.calc_words.specs.WrittenLimits.{KeepsLimits}
 use Rattle.calc_words.proofs.CutWords.{first_text}
 use Rattle.calc_words.proofs.Joining.{joined_read}
-use Rattle.calc_words.proofs.WrittenCommands.{all_keep, some_keeps}
-use Rattle.calc_language.specs.BuiltCommands.{command_entries, batch_entries}
+use Rattle.calc_words.proofs.WrittenCommands.{words_keep}
 use Rattle.calc_language.specs.Reading.{command_of, entry_named, IsReadAs, IsRead, IsWithinItsLimits}
 use Rattle.calc_language.proofs.NamedEntries.{IsLed, are_named_apart, each_among, one_named, led_named, unnamed}
 use Rattle.std.proofs.lemmas.Bool.{both_ways}
@@ -81,28 +78,28 @@ named_among all entries t w words rest r is here there h = by (entry_named w all
 
 -- ---- the commands of the command line, and those of a line of a batch, have different names
 
-pub commands_told : AreTold command_entries
+pub commands_told : AreTold all_entries
 commands_told = search rules
 
-pub lines_told : AreTold batch_entries
+pub lines_told : AreTold line_entries
 lines_told = search rules
 
 pub read_named : (w : List ℕ) (words rest : Words) (r : Result Command WordsFault) → words ≡ w ∷ rest
-    → IsReadAs (entry_named w command_entries) words r → IsRead words r
-read_named w words rest r is h = named_among command_entries command_entries commands_told w words rest r is (λ e m n. m) (λ e m. m) h
+    → IsReadAs (entry_named w all_entries) words r → IsRead words r
+read_named w words rest r is h = named_among all_entries all_entries commands_told w words rest r is (λ e m n. m) (λ e m. m) h
 
 pub read_in_line : (w : List ℕ) (words rest : Words) (r : Result Command WordsFault) → words ≡ w ∷ rest
     → (w ≡ codes "batch" → ⊥) → (w ≡ codes "work" → ⊥)
-    → IsReadAs (entry_named w command_entries) words r → IsReadBy batch_entries words r
-read_in_line w words rest r is b k h = named_among command_entries batch_entries lines_told w words rest r is here there h
+    → IsReadAs (entry_named w all_entries) words r → IsReadBy line_entries words r
+read_in_line w words rest r is b k h = named_among all_entries line_entries lines_told w words rest r is here there h
   where
-    there : (e : Entry) → Among e batch_entries → Among e command_entries
-    there e m = Among-append_left e batch_entries (batch_entry ∷ work_entry ∷ []) m
+    there : (e : Entry) → Among e line_entries → Among e all_entries
+    there e m = Among-append_left e line_entries (batch_entry ∷ work_entry ∷ []) m
 
-    here : (e : Entry) → Among e command_entries → w ≡ e.name → Among e batch_entries
-    here e m n = by (Among_from_append e batch_entries (batch_entry ∷ work_entry ∷ []) m)
+    here : (e : Entry) → Among e all_entries → w ≡ e.name → Among e line_entries
+    here e m n = by (Among_from_append e line_entries (batch_entry ∷ work_entry ∷ []) m)
       where
-        by : Among e batch_entries ⊎ Among e (batch_entry ∷ work_entry ∷ []) → Among e batch_entries
+        by : Among e line_entries ⊎ Among e (batch_entry ∷ work_entry ∷ []) → Among e line_entries
         by (inl a) = a
         by (inr (inl q)) = absurd (b (n ∙ ap (λ (x : Entry). x.name) q))
         by (inr (inr (inl q))) = absurd (k (n ∙ ap (λ (x : Entry). x.name) q))
@@ -115,26 +112,21 @@ pub no_words : (words : Words) (r : Result Command WordsFault) (entries : List E
 no_words words r entries t is h =
     wrong_first entries words r (subst (λ ws. IsSyntaxPlace entries ws 0 0) (sym is) (unnamed entries t.led t.can t.some [] (λ e m b. let k = b.1 in cc))) h
 
--- a command that words spell without an error is within its limits
-pub kept_by_all : (words : Words) (c : PlainCommand) → SpellsWithoutOffence command_entries words c → KeepsLimits c
-kept_by_all words c h =
-    some_keeps (entries_of all_bases) (all_keep all_bases) words c h
-
 pub within : (words : Words) (result : Result Command WordsFault) → IsRead words result → IfOk result IsWithinItsLimits
-within words (Ok command) h = kept_by_all words (command_of command) h.0
+within words (Ok command) h = words_keep words (command_of command) h.0
 within words (Err fault) h = tt
 
 -- if the first word is the name of no command of a line of a batch, then the refusal with an error of syntax at byte 0 of word 0 is a correct result
 -- of reading the words as such a command
 pub elsewhere : (w : List ℕ) (words rest : Words) (r : Result Command WordsFault) → words ≡ w ∷ rest
-    → EachOf (λ (e : Entry). w ≡ e.name → ⊥) batch_entries → r ≡ Err (Syntax (record { word = 0; byte = 0 })) → IsReadBy batch_entries words r
+    → EachOf (λ (e : Entry). w ≡ e.name → ⊥) line_entries → r ≡ Err (Syntax (record { word = 0; byte = 0 })) → IsReadBy line_entries words r
 elsewhere w words rest r is apart h =
-    wrong_first batch_entries words r
-    (subst (λ ws. IsSyntaxPlace batch_entries ws 0 0) (sym is)
-    (unnamed batch_entries lines_told.led lines_told.can lines_told.some (w ∷ rest)
-    (λ e m b. none_found w batch_entries (none_named w batch_entries apart) e m (first_text w e.name rest b.0 b.1)))) h
+    wrong_first line_entries words r
+    (subst (λ ws. IsSyntaxPlace line_entries ws 0 0) (sym is)
+    (unnamed line_entries lines_told.led lines_told.can lines_told.some (w ∷ rest)
+    (λ e m b. none_found w line_entries (none_named w line_entries apart) e m (first_text w e.name rest b.0 b.1)))) h
 
-of_no_line : (w a : List ℕ) → w ≡ a → EachOf (λ (e : Entry). same a e.name ≡ false) batch_entries → EachOf (λ (e : Entry). w ≡ e.name → ⊥) batch_entries
+of_no_line : (w a : List ℕ) → w ≡ a → EachOf (λ (e : Entry). same a e.name ≡ false) line_entries → EachOf (λ (e : Entry). w ≡ e.name → ⊥) line_entries
 of_no_line w a h k = search rules
 
 none_same : (a : List ℕ) (entries : List Entry) → entry_named a entries ≡ None → EachOf (λ (e : Entry). same a e.name ≡ false) entries
@@ -142,6 +134,6 @@ none_same a [] h = tt
 none_same a (e ∷ entries) h = search (rules, (none_same a entries))
 
 -- `batch` and `work` are not names of commands of a line of a batch
-pub runs_others : (w : List ℕ) → (w ≡ codes "batch") ⊎ (w ≡ codes "work") → EachOf (λ (e : Entry). w ≡ e.name → ⊥) batch_entries
-runs_others w (inl h) = of_no_line w (codes "batch") h (none_same (codes "batch") batch_entries refl)
-runs_others w (inr h) = of_no_line w (codes "work") h (none_same (codes "work") batch_entries refl)
+pub runs_others : (w : List ℕ) → (w ≡ codes "batch") ⊎ (w ≡ codes "work") → EachOf (λ (e : Entry). w ≡ e.name → ⊥) line_entries
+runs_others w (inl h) = of_no_line w (codes "batch") h (none_same (codes "batch") line_entries refl)
+runs_others w (inr h) = of_no_line w (codes "work") h (none_same (codes "work") line_entries refl)

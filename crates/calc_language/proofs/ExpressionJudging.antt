@@ -9,7 +9,7 @@ use Rattle.sym_model.specs.Form.{words_of}
 use Rattle.sym_model.specs.WordForms.{optional, form_words, is_one_line}
 use Rattle.sym_model.specs.Command.{expand}
 use Rattle.sym_model.specs.CommandOffence.{Offence, is_no_later, earlier_of, first_offence, offences_in_word}
-use Rattle.sym_model.specs.Grammar.{all_bases, expand_entry}
+use Rattle.sym_model.specs.Grammar.{expand_entry}
 use Rattle.sym_model.specs.SyntaxPlace.{IsSyntaxPlace}
 use Rattle.expression_laws.proofs.PhraseRuns.{one_phrase}
 use Rattle.word_laws.specs.Words.{Words}
@@ -81,23 +81,23 @@ expand_parts = MaybeForm ∷ Target ∷ Expression ∷ []
 
 pub expand_faulty : (words : Words) (places : List ℕ) (k : AreCut (codes "expand") expand_parts places words) (t : Basis) (at : ℕ) (e : ExpressionFault)
     → t ≡ k.parts.3.0 → at ≡ 1 + length (words_of (optional form_words) k.parts.0) + 1 → IsReadAs t (spelling k.parts.3.3.0) (Err e)
-    → IsRefusal (expand_entry all_bases ∷ []) words (placed at e)
+    → IsRefusal (expand_entry ∷ []) words (placed at e)
 expand_faulty words places k t at e h i read =
     let n = length (words_of (optional form_words) k.parts.0) in
     let same : 2 + n ≡ at = omega (arith, i) in
-    first_refused (expand_entry all_bases) words (has_of (codes "expand") expand_parts places words k) (placed at e)
+    first_refused expand_entry words (has_of (codes "expand") expand_parts places words k) (placed at e)
     (subst (λ m. IsFirst (first_offence (offences_in_word m (offences k.parts.3.0 k.parts.3.3.0))) (placed at e)) (sym same)
     (placed_first at (offences k.parts.3.0) (spelling k.parts.3.3.0) k.parts.3.3.0 e (record { allowed = k.parts.3.3.1; spelled = refl })
     (subst (λ b. IsReadAs b (spelling k.parts.3.3.0) (Err e)) h read)))
 
 pub expand_fine : (words : Words) (places : List ℕ) (k : AreCut (codes "expand") expand_parts places words) (b : Letter) (m : Bool) (x : Formula)
     → basis_of b ≡ k.parts.3.0 → m ≡ is_one_line k.parts.0 → IsReadAs (basis_of b) (spelling k.parts.3.3.0) (Ok x)
-    → IsRead (expand_entry all_bases ∷ []) words (Ok (Expand b m x))
+    → IsRead (expand_entry ∷ []) words (Ok (Expand b m x))
 expand_fine words places k b m x h i read =
     let f = k.parts.3.3.0 in
     let spells : SpellsPhrase (spelling f) f = record { allowed = k.parts.3.3.1; spelled = refl } in
     let n = length (words_of (optional form_words) k.parts.0) in
-    read_standing (expand_entry all_bases) words (has_of (codes "expand") expand_parts places words k) (expand (basis_of b) m (tree f))
+    read_standing expand_entry words (has_of (codes "expand") expand_parts places words k) (expand (basis_of b) m (tree f))
     (ap (λ t. expand t m (tree f)) h ∙ ap (λ l. expand k.parts.3.0 l (tree f)) i) (Ok (Expand b m x)) (
       (ap (expand (basis_of b) m) (tree_read (offences (basis_of b)) (spelling f) f x spells read), tt),
       none_placed (2 + n) (offences k.parts.3.0) (spelling f) f x spells (subst (λ t. IsReadAs t (spelling f) (Ok x)) h read),
@@ -114,10 +114,10 @@ pub expand_refused : (words : Words) (places : List ℕ) (k : AreCutUnread (code
     (e : ExpressionFault) → ((u : IsUnread (codes "expand") expand_parts places words) → (at ≡ u.at) × (v ≡ u.text))
     → ((j : AreCut (codes "expand") expand_parts places words)
     → (t ≡ j.parts.3.0) × (at ≡ 1 + length (words_of (optional form_words) j.parts.0) + 1) × (v ≡ spelling j.parts.3.3.0))
-    → IsReadAs t v (Err e) → IsRefusal (expand_entry all_bases ∷ []) words (placed at e)
+    → IsReadAs t v (Err e) → IsRefusal (expand_entry ∷ []) words (placed at e)
 expand_refused words places k t at v e unread cut read = by k e read
   where
-    known : (j : AreCut (codes "expand") expand_parts places words) (e : ExpressionFault) → IsReadAs t v (Err e) → IsRefusal (expand_entry all_bases ∷ []) words (placed at e)
+    known : (j : AreCut (codes "expand") expand_parts places words) (e : ExpressionFault) → IsReadAs t v (Err e) → IsRefusal (expand_entry ∷ []) words (placed at e)
     known j e read =
         let h = cut j in expand_faulty words places j t at e h.0 h.1 (subst (λ w. IsReadAs t w (Err e)) h.2 read)
 
@@ -125,12 +125,12 @@ expand_refused words places k t at v e unread cut read = by k e read
     spelled u f s = u.spelled f (subst (λ w. SpellsPhrase w f) (unread u).1 s)
 
     by : AreCutUnread (codes "expand") expand_parts places words → (e : ExpressionFault) → IsReadAs t v (Err e)
-        → IsRefusal (expand_entry all_bases ∷ []) words (placed at e)
+        → IsRefusal (expand_entry ∷ []) words (placed at e)
     by (inl j) e read = known j e read
     by (inr u) (Wrong byte) read =
         let h = unread u in
-        subst (λ n. IsSyntaxPlace (expand_entry all_bases ∷ []) words n byte) (sym h.0)
-        (u.wrong byte (subst (λ w. IsWrongByte w byte) h.1 read) (expand_entry all_bases) refl)
+        subst (λ n. IsSyntaxPlace (expand_entry ∷ []) words n byte) (sym h.0)
+        (u.wrong byte (subst (λ w. IsWrongByte w byte) h.1 read) expand_entry refl)
     by (inr u) (Wide byte) read = known (spelled u read.0 read.1) (Wide byte) read
     by (inr u) (Past byte) read = known (spelled u read.0 read.1) (Past byte) read
     by (inr u) (Misshapen byte) read = known (spelled u read.0 read.1) (Misshapen byte) read

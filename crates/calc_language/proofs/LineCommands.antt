@@ -13,7 +13,7 @@ use Rattle.calc_words.specs.LineBytes.{seen, is_passed_over}
 use Rattle.calc_words.specs.Reading.{IsRead, Refuses, GoesWrong}
 use Rattle.calc_words.proofs.ForeignBytes.{seen_read}
 use Rattle.calc_words.proofs.ReadingFacts.{accepts, refuses, goes_wrong}
-use Rattle.calc_language.specs.BuiltCommands.{command_entries, batch_entries}
+use Rattle.sym_model.specs.Grammar.{all_entries, line_entries}
 use Rattle.calc_language.specs.Lines.{IsLineRead, KeepsItsLimits, AcceptsInLine}
 use Rattle.calc_words.specs.declared.command.Command.{Command}
 use Rattle.calc_language.proofs.Entries.{kept_by_all}
@@ -26,17 +26,17 @@ abbrev whole : Result Command WordsFault → Result (Option Command) WordsFault
 whole (Ok command) = Ok (Some command)
 whole (Err fault) = Err fault
 
-words_line : (words : Words) (r : Result Command WordsFault) → IsRead batch_entries words r → IsLineRead (spoken words) (whole r)
+words_line : (words : Words) (r : Result Command WordsFault) → IsRead line_entries words r → IsLineRead (spoken words) (whole r)
 words_line words (Ok command) h = h
 words_line words (Err fault) h = h
 
 pub line_read : (line : List ℕ) (kept : Words) (r : Result Command WordsFault) → nat_lt most_bytes (length line) ≡ false
-    → kept ≡ map seen (words_of_line (without_return line)) → is_passed_over kept ≡ false → IsRead batch_entries kept r
+    → kept ≡ map seen (words_of_line (without_return line)) → is_passed_over kept ≡ false → IsRead line_entries kept r
     → IsLineRead (batch_line line) (whole r)
 line_read line kept r n k h read =
     let words = words_of_line (without_return line) in
     subst (λ l. IsLineRead l (whole r)) (sym (spoken_line line kept n k h))
-    (words_line words r (seen_read batch_entries refl words r (subst (λ ws. IsRead batch_entries ws r) k read)))
+    (words_line words r (seen_read line_entries refl words r (subst (λ ws. IsRead line_entries ws r) k read)))
 
 -- ---- consequences of a correct result of reading a line
 
@@ -45,7 +45,7 @@ some_append P [] ys h = absurd h
 some_append P (x ∷ xs) ys (inl h) = inl h
 some_append P (x ∷ xs) ys (inr h) = inr (some_append P xs ys h)
 
-line_of_all : (words : Words) (c : PlainCommand) → SpellsWithoutOffence batch_entries words c → SpellsWithoutOffence command_entries words c
+line_of_all : (words : Words) (c : PlainCommand) → SpellsWithoutOffence line_entries words c → SpellsWithoutOffence all_entries words c
 line_of_all words c h = search (rules, some_append)
 
 pub within : (line : BatchLine) (r : Result (Option Command) WordsFault) → IsLineRead line r → IfOk r KeepsItsLimits
@@ -56,31 +56,31 @@ within passed_over (Ok (Some command)) h = absurd h
 within (spoken words) (Ok (Some command)) h = search (rules, kept_by_all, line_of_all)
 
 spoken_accepts : (words : Words) (r : Result (Option Command) WordsFault) → IsLineRead (spoken words) r → (c : PlainCommand)
-    → SpellsWithoutOffence batch_entries words c → AcceptsInLine c r
+    → SpellsWithoutOffence line_entries words c → AcceptsInLine c r
 spoken_accepts words (Ok None) h c s = absurd h
-spoken_accepts words (Ok (Some command)) h c s = accepts batch_entries refl words (Ok command) h c s
-spoken_accepts words (Err fault) h c s = accepts batch_entries refl words (Err fault) h c s
+spoken_accepts words (Ok (Some command)) h c s = accepts line_entries refl words (Ok command) h c s
+spoken_accepts words (Err fault) h c s = accepts line_entries refl words (Err fault) h c s
 
 spoken_refuses : (words : Words) (r : Result (Option Command) WordsFault) → IsLineRead (spoken words) r → (o : Offence)
-    → HasFirstOffence batch_entries words (Some o) → Refuses o r
+    → HasFirstOffence line_entries words (Some o) → Refuses o r
 spoken_refuses words (Ok None) h o s = absurd h
-spoken_refuses words (Ok (Some command)) h o s = refuses batch_entries refl words (Ok command) h o s
-spoken_refuses words (Err fault) h o s = refuses batch_entries refl words (Err fault) h o s
+spoken_refuses words (Ok (Some command)) h o s = refuses line_entries refl words (Ok command) h o s
+spoken_refuses words (Err fault) h o s = refuses line_entries refl words (Err fault) h o s
 
 spoken_wrong : (words : Words) (r : Result (Option Command) WordsFault) → IsLineRead (spoken words) r → (w b : ℕ)
-    → IsSyntaxPlace batch_entries words w b → GoesWrong w b r
+    → IsSyntaxPlace line_entries words w b → GoesWrong w b r
 spoken_wrong words (Ok None) h w b s = absurd h
-spoken_wrong words (Ok (Some command)) h w b s = goes_wrong batch_entries refl words (Ok command) h w b s
-spoken_wrong words (Err fault) h w b s = goes_wrong batch_entries refl words (Err fault) h w b s
+spoken_wrong words (Ok (Some command)) h w b s = goes_wrong line_entries refl words (Ok command) h w b s
+spoken_wrong words (Err fault) h w b s = goes_wrong line_entries refl words (Err fault) h w b s
 
 pub line_accepts : (line : BatchLine) (r : Result (Option Command) WordsFault) → IsLineRead line r → (words : Words) (c : PlainCommand) → line ≡ spoken words
-    → SpellsWithoutOffence batch_entries words c → AcceptsInLine c r
+    → SpellsWithoutOffence line_entries words c → AcceptsInLine c r
 line_accepts line r h words c e s = spoken_accepts words r (subst (λ l. IsLineRead l r) e h) c s
 
 pub line_refuses : (line : BatchLine) (r : Result (Option Command) WordsFault) → IsLineRead line r → (words : Words) (o : Offence) → line ≡ spoken words
-    → HasFirstOffence batch_entries words (Some o) → Refuses o r
+    → HasFirstOffence line_entries words (Some o) → Refuses o r
 line_refuses line r h words o e s = spoken_refuses words r (subst (λ l. IsLineRead l r) e h) o s
 
 pub line_wrong : (line : BatchLine) (r : Result (Option Command) WordsFault) → IsLineRead line r → (words : Words) (w b : ℕ) → line ≡ spoken words
-    → IsSyntaxPlace batch_entries words w b → GoesWrong w b r
+    → IsSyntaxPlace line_entries words w b → GoesWrong w b r
 line_wrong line r h words w b e s = spoken_wrong words r (subst (λ l. IsLineRead l r) e h) w b s

@@ -221,7 +221,7 @@ pair_read words first second r t j =
     let y = t.has.written.1.1.1 in
     let u = written_rows x in
     let v = written_rows y in
-    let offends : unrsk_offends t.has.written ≡ pair_offences u v =
+    let offends : unrsk_offends t.has.written.1 ≡ pair_offences u v =
     ap (λ p. offends_so p (tableau_rows x) (words_of tableau_words x) (words_of tableau_words y) (λ k. placed_rows k y)) (rows_placed 1 x)
     ∙ ap (λ p. offends_so (rows_at 1 u) p (words_of tableau_words x) (words_of tableau_words y) (λ k. placed_rows k y)) (rows_entered x)
     ∙ ap (λ p. offends_so (rows_at 1 u) (map numbers u) p (words_of tableau_words y) (λ k. placed_rows k y)) (rows_spelled x)

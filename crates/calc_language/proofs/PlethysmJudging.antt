@@ -9,7 +9,7 @@ use Rattle.sym_model.specs.Phrase.{Phrase, expression, Is, SpellsPhrase, spellin
 use Rattle.sym_model.specs.ExpressionOffence.{WordOffence, range, offences_within, inner_offences, plethysm_degree_limit}
 use Rattle.sym_model.specs.CommandOffence.{Offence, first_offence, earlier_of, is_no_later, judged_against, offences_in_word, plethysm_offences}
 use Rattle.sym_model.specs.Command.{plethysm}
-use Rattle.sym_model.specs.Grammar.{all_bases, plethysm_entry}
+use Rattle.sym_model.specs.Grammar.{plethysm_entry}
 use Rattle.word_laws.specs.Words.{Words}
 use Rattle.word_laws.proofs.EarlierOffences.{first_of_both}
 use Rattle.word_laws.proofs.FirstOffences.{first_none}
@@ -137,7 +137,7 @@ plethysm_parts = Target ∷ Expression ∷ Expression ∷ []
 pub plethysm_read : (words : Words) (places : List ℕ) (k : AreCut (codes "plethysm") plethysm_parts places words) (t : Basis) (r : Result Command WordsFault)
     → t ≡ k.parts.0
     → IsJudged (StandsFor (plethysm t (tree k.parts.3.0) (tree k.parts.3.3.0))) (first_offence (plethysm_offences 2 k.parts.3.0 k.parts.3.3.0)) r
-    → IsRead (plethysm_entry all_bases ∷ []) words r
+    → IsRead (plethysm_entry ∷ []) words r
 plethysm_read words places k t r e h =
-    read_standing (plethysm_entry all_bases) words (has_of (codes "plethysm") plethysm_parts places words k)
+    read_standing plethysm_entry words (has_of (codes "plethysm") plethysm_parts places words k)
     (plethysm t (tree k.parts.3.0) (tree k.parts.3.3.0)) (ap (λ b. plethysm b (tree k.parts.3.0) (tree k.parts.3.3.0)) e) r h

@@ -160,7 +160,7 @@ skew_read words outer inner rows r t j =
     let i = t.has.written.1.1.1.0 in
     let x = t.has.written.1.1.1.1.1 in
     let k = 3 + length o + length i in
-    let offends : rect_offends t.has.written ≡ all_skew_offences o i (written_rows x) =
+    let offends : rect_offends t.has.written.1 ≡ all_skew_offences o i (written_rows x) =
     ap (λ p. offences_of_skew o i k p (placed_rows k x)) (rows_spelled x)
     ∙ ap (λ p. offences_of_skew o i k (rows_text (written_rows x)) p) (rows_placed k x) in
     read_standing rect_entry words t.has (rect (partition o) (partition i) (rows_in (partition o) (map numbers (written_rows x))))

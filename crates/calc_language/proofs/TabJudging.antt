@@ -205,7 +205,7 @@ tab_said : (P Q : List ℕ) (x : Written (optional from_words)) → last_reading
 tab_said P Q (inl x) = refl
 tab_said P Q (inr x) = ap (λ ns. Some (column_reading P Q (rows_in P ns))) (rows_entered x.1)
 
-tab_offended : (outer inner : Words) (x : Written (optional from_words)) → tab_offends (tt, (outer, (tt, (inner, x)))) ≡ all_tab_offences outer inner (from_rows x)
+tab_offended : (outer inner : Words) (x : Written (optional from_words)) → tab_offends (outer, (tt, (inner, x))) ≡ all_tab_offences outer inner (from_rows x)
 tab_offended outer inner (inl x) = refl
 tab_offended outer inner (inr x) = search (rules, rows_entered, rows_placed)
 

@@ -7,5 +7,4 @@ pub mod SkewTotals
 pub mod WrittenPairs
 pub mod TabWords
 pub mod Reading
-pub mod BuiltCommands
 pub mod Lines

@@ -6,7 +6,7 @@ use Rattle.sym_model.specs.Entry.{SpellsWithoutOffence}
 use Rattle.calc_base.specs.declared.words.WordsFault.{WordsFault}
 use Rattle.calc_base.specs.declared.words.WordsFault.TheVariants.{NoMemory}
 use Rattle.calc_words.specs.Reading.{IsRefusal, IsFaultOf}
-use Rattle.calc_language.specs.BuiltCommands.{batch_entries}
+use Rattle.sym_model.specs.Grammar.{line_entries}
 use Rattle.calc_words.specs.Commands.{IsSound}
 use Rattle.calc_words.specs.declared.command.Command.{Command}
 use Rattle.calc_language.specs.Reading.{command_of, IsWithinItsLimits}
@@ -23,8 +23,8 @@ IsLineRead passed_over (Err NoMemory) = Unit {0}
 IsLineRead passed_over (Err fault) = ⊥
 IsLineRead (spoken words) (Ok None) = ⊥
 IsLineRead (spoken words) (Ok (Some command)) =
-    SpellsWithoutOffence batch_entries words (command_of command) × IsSound command
-IsLineRead (spoken words) (Err fault) = IsRefusal batch_entries words fault
+    SpellsWithoutOffence line_entries words (command_of command) × IsSound command
+IsLineRead (spoken words) (Err fault) = IsRefusal line_entries words fault
 
 -- the command of a line, if there is one, is within its limits (`KeepsLimits`)
 abbrev pub KeepsItsLimits : Option Command → Type 0

@@ -2,7 +2,7 @@
 use Rattle.std.specs.Prelude.{◌≡◌, ℕ, cond, List, [], ◌∷◌, Option, Some, None, Result, Err}
 use Rattle.sym_model.specs.Entry.{Entry}
 use Rattle.sym_model.specs.Polynomial.{same}
-use Rattle.calc_language.specs.BuiltCommands.{command_entries}
+use Rattle.sym_model.specs.Grammar.{all_entries}
 use Rattle.calc_base.specs.declared.words.WordsFault.{WordsFault}
 use Rattle.calc_base.specs.declared.words.WordsFault.TheVariants.{Syntax, Literal, Range, Shape}
 use Rattle.calc_base.specs.declared.words.WordsFault.TheVariants.{NoMemory}
@@ -36,7 +36,7 @@ IsWithinItsLimits command = KeepsLimits (command_of command)
 -- the result of reading the words as a command of the command line is correct: a command that they spell without an error and that is sound (the
 -- tableaux of `unrsk` are a pair, `IsSound`), their first error, or the place of their first error of syntax; nothing is required if memory runs out
 abbrev pub IsRead : List (List ℕ) → Result Command WordsFault → Type 0
-IsRead words result = IsReadBy command_entries words result
+IsRead words result = IsReadBy all_entries words result
 
 -- the refusal of a command whose word `word` is an expression with this fault
 abbrev pub placed : ℕ → ExpressionFault → WordsFault

@@ -2,7 +2,7 @@
 use Rattle.std.specs.Prelude.{◌≡◌, ℕ, ◌<◌, List, [], ◌∷◌, ◌++◌, length, codes}
 use Rattle.sym_model.specs.CommandOffence.{Offence, row_offences, entry_rule, order_offences}
 use Rattle.sym_model.specs.Form.{EachOf, Has}
-use Rattle.sym_model.specs.Grammar.{rect_words}
+use Rattle.sym_model.specs.Grammar.{rect_entry}
 use Rattle.sym_model.specs.Schur.{row_lengths}
 use Rattle.sym_model.specs.WordForms.{shape_offences}
 use Rattle.word_laws.specs.WrittenRows.{rows_text, rows_at, written_rows}
@@ -11,7 +11,7 @@ use Rattle.calc_words.specs.NumberRuns.{IsNumber}
 -- the words are `rect`, the number words `outer` and `inner` with `/` between them and, after `-`, a tableau with these rows of number words
 pub record AreSkewWords (outer inner : List (List ℕ)) (rows : List (List (List ℕ)))
     (words : List (List ℕ)) : Type 0 where
-  pub has : Has rect_words words
+  pub has : Has rect_entry.form words
   pub outer_is : outer ≡ has.written.1.0
   pub inner_is : inner ≡ has.written.1.1.1.0
   pub rows_are : rows ≡ written_rows has.written.1.1.1.1.1

@@ -8,7 +8,7 @@ use Rattle.sym_model.specs.ExpressionOffence.{shape}
 use Rattle.std.proofs.Common.{inl, inr}
 use Rattle.sym_model.specs.Form.{Written, EachOf, Has}
 use Rattle.sym_model.specs.GoodTableau.{column_reading}
-use Rattle.sym_model.specs.Grammar.{tab_words, two_partitions}
+use Rattle.sym_model.specs.Grammar.{tab_entry, two_partitions}
 use Rattle.sym_model.specs.WordForms.{optional, from_words, numbers, partition}
 use Rattle.word_laws.specs.WrittenRows.{rows_text, rows_at, written_rows}
 use Rattle.calc_words.specs.NumberRuns.{IsNumber}
@@ -27,7 +27,7 @@ from_rows (inr x) = written_rows x.1
 -- of number words
 pub record AreTabWords (outer inner : List (List ℕ)) (rows : List (List (List ℕ)))
     (words : List (List ℕ)) : Type 0 where
-  pub has : Has tab_words words
+  pub has : Has tab_entry.form words
   pub outer_is : outer ≡ has.written.1.0
   pub inner_is : inner ≡ has.written.1.1.1.0
   pub rows_are : rows ≡ from_rows has.written.1.1.1.1

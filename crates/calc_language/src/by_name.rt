@@ -1,6 +1,6 @@
 //! Reading of words as those of the command with a given name.
 ghost use Rattle.std.specs.Prelude.{map, string_bytes};
-ghost use Rattle.calc_language.specs.BuiltCommands.{command_entries};
+ghost use Rattle.sym_model.specs.Grammar.{all_entries};
 ghost use Rattle.calc_language.specs.Reading.{IsReadAs, entry_named};
 
 use crate::Command;
@@ -22,7 +22,7 @@ use std::alloc::Global;
 /// Reads the words as those of the command of this name; if there is no such command, refuses them
 /// with an error of syntax at byte 0 of the first word.
 pub(crate) fn by_name(alloc: Global, name: &str, words: &[String]) -> Result<Command, WordsFault>
-    ensures { IsReadAs (entry_named name.now command_entries) (map string_bytes words.now) result }
+    ensures { IsReadAs (entry_named name.now all_entries) (map string_bytes words.now) result }
 {
     match name {
         "mult" => read_mult(alloc, words),

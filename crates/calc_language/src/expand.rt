@@ -1,6 +1,6 @@
 //! Reading of the words of `expand`.
 ghost use Rattle.std.specs.Prelude.{[], ◌∷◌, map, string_bytes};
-ghost use Rattle.sym_model.specs.Grammar.{all_bases, expand_entry};
+ghost use Rattle.sym_model.specs.Grammar.{expand_entry};
 ghost use Rattle.calc_words.specs.Reading.{IsRead as IsReadBy};
 
 use crate::Command;
@@ -13,7 +13,7 @@ use std::alloc::Global;
 /// Reads the words of `expand`: that word, optionally `-m` for an answer on one line, the letter of
 /// a target basis, and an expression.
 pub(crate) fn read_expand(alloc: Global, words: &[String]) -> Result<Command, WordsFault>
-    ensures { IsReadBy (expand_entry all_bases ∷ []) (map string_bytes words.now) result }
+    ensures { IsReadBy (expand_entry ∷ []) (map string_bytes words.now) result }
 {
     let parts = &[Part::MaybeForm, Part::Target, Part::Expression];
     let places = cut_unread(words, "expand", parts)?;

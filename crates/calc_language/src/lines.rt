@@ -7,7 +7,7 @@ ghost use Rattle.sym_model.specs.CommandOffence.{Offence};
 ghost use Rattle.sym_model.specs.Entry.{SpellsWithoutOffence, HasFirstOffence};
 ghost use Rattle.sym_model.specs.SyntaxPlace.{IsSyntaxPlace};
 ghost use Rattle.calc_words.specs.Reading.{IsRead as IsReadBy, Refuses, GoesWrong};
-ghost use Rattle.calc_language.specs.BuiltCommands.{batch_entries};
+ghost use Rattle.sym_model.specs.Grammar.{line_entries};
 ghost use Rattle.calc_language.specs.Lines.{IsLineRead, KeepsItsLimits, IsPassedOver};
 ghost use Rattle.calc_language.specs.Lines.{AcceptsInLine};
 
@@ -34,13 +34,13 @@ pub fn read_line(alloc: Global, line: &[u8]) -> Result<Option<Command>, WordsFau
     ensures passed_over { batch_line line.now ≡ passed_over → IsPassedOver result }
     ensures accepts { (words : List (List ℕ)) (command : PlainCommand)
         → batch_line line.now ≡ spoken words
-        → SpellsWithoutOffence batch_entries words command → AcceptsInLine command result }
+        → SpellsWithoutOffence line_entries words command → AcceptsInLine command result }
     ensures refuses { (words : List (List ℕ)) (offence : Offence)
         → batch_line line.now ≡ spoken words
-        → HasFirstOffence batch_entries words (Some offence) → Refuses offence result }
+        → HasFirstOffence line_entries words (Some offence) → Refuses offence result }
     ensures goes_wrong { (words : List (List ℕ)) (word byte : ℕ)
         → batch_line line.now ≡ spoken words
-        → IsSyntaxPlace batch_entries words word byte → GoesWrong word byte result }
+        → IsSyntaxPlace line_entries words word byte → GoesWrong word byte result }
 {
     read(alloc, line)
 }
@@ -68,7 +68,7 @@ fn read(alloc: Global, line: &[u8]) -> Result<Option<Command>, WordsFault>
 
 /// Reads the words as a command of a line: any command but `batch` and `work`.
 fn read_in_line(alloc: Global, words: &[String]) -> Result<Command, WordsFault>
-    ensures { IsReadBy batch_entries (map string_bytes words.now) result }
+    ensures { IsReadBy line_entries (map string_bytes words.now) result }
 {
     let Some((first, _)) = words.split_first() else {
         return Err(syntax(0, 0));

@@ -2,7 +2,7 @@
 ghost use Rattle.std.specs.Prelude.{[], ◌∷◌, map, string_bytes};
 ghost use Rattle.sym_model.specs.CommandOffence.{first_offence, plethysm_offences};
 ghost use Rattle.sym_model.specs.Command.{plethysm};
-ghost use Rattle.sym_model.specs.Grammar.{all_bases, plethysm_entry};
+ghost use Rattle.sym_model.specs.Grammar.{plethysm_entry};
 ghost use Rattle.sym_model.specs.Phrase.{Phrase, SpellsPhrase, tree};
 ghost use Rattle.expression_reading.specs.Trees.{basis_of};
 ghost use Rattle.calc_words.specs.Reading.{IsRead as IsReadBy, IsJudged};
@@ -46,7 +46,7 @@ fn judged(alloc: Global, target: Basis, outer: &[u8], inner: &[u8]) -> Result<Co
 /// Reads the words of `plethysm`: that word, the letter of a target basis, the outer expression,
 /// and the inner expression.
 pub(crate) fn read_plethysm(alloc: Global, words: &[String]) -> Result<Command, WordsFault>
-    ensures { IsReadBy (plethysm_entry all_bases ∷ []) (map string_bytes words.now) result }
+    ensures { IsReadBy (plethysm_entry ∷ []) (map string_bytes words.now) result }
 {
     let parts = &[Part::Target, Part::Expression, Part::Expression];
     let places = cut(words, "plethysm", parts)?;

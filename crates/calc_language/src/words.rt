@@ -4,7 +4,7 @@ ghost use Rattle.sym_model.specs.Command.{Command as PlainCommand};
 ghost use Rattle.sym_model.specs.CommandOffence.{Offence};
 ghost use Rattle.sym_model.specs.Entry.{SpellsWithoutOffence, HasFirstOffence};
 ghost use Rattle.sym_model.specs.SyntaxPlace.{IsSyntaxPlace};
-ghost use Rattle.calc_language.specs.BuiltCommands.{command_entries};
+ghost use Rattle.sym_model.specs.Grammar.{all_entries};
 ghost use Rattle.calc_language.specs.Reading.{IsWithinItsLimits, IsRead, Accepts, Refuses};
 ghost use Rattle.calc_language.specs.Reading.{GoesWrong};
 
@@ -27,13 +27,13 @@ pub fn read_words(alloc: Global, words: &[String]) -> Result<Command, WordsFault
     ensures read { IsRead (map string_bytes words.now) result }
     ensures within { IfOk result IsWithinItsLimits }
     ensures accepts { (command : PlainCommand)
-        → SpellsWithoutOffence command_entries (map string_bytes words.now) command
+        → SpellsWithoutOffence all_entries (map string_bytes words.now) command
         → Accepts command result }
     ensures refuses { (offence : Offence)
-        → HasFirstOffence command_entries (map string_bytes words.now) (Some offence)
+        → HasFirstOffence all_entries (map string_bytes words.now) (Some offence)
         → Refuses offence result }
     ensures goes_wrong { (word byte : ℕ)
-        → IsSyntaxPlace command_entries (map string_bytes words.now) word byte
+        → IsSyntaxPlace all_entries (map string_bytes words.now) word byte
         → GoesWrong word byte result }
 {
     read(alloc, words)

@@ -8,7 +8,7 @@ use Rattle.calc_base.specs.declared.words.WordsFault.TheVariants as fault
 use Rattle.sym_model.specs.Command.{Command, batch}
 use Rattle.sym_model.specs.CommandOffence.{Offence}
 use Rattle.sym_model.specs.Entry.{Entry, SpellsWithoutOffence}
-use Rattle.calc_language.specs.BuiltCommands.{command_entries}
+use Rattle.sym_model.specs.Grammar.{all_entries}
 use Rattle.sym_model.specs.Outcome.{MayBeLarge}
 use Rattle.calc_language.specs.Reading.{IsFaultOf}
 use Rattle.calc_replies.specs.declared.outcome.Outcome.{Outcome}
@@ -35,10 +35,10 @@ accepts_reply command (Err e) other reply same = tt
 
 -- if the words spell the command without an error, a task of the command (to write its outcome, or to run lines) is a task for the words
 pub task_reply : (words : List (List ℕ)) (command : Command) (result : Result Task NoMemory)
-    → SpellsWithoutOffence command_entries words command → IsTaskOf command result → IsTaskFor words result
-task_reply words command (Ok Lines) spelled task = subst (SpellsWithoutOffence command_entries words) task spelled
-task_reply words command (Ok (Workload lines seed)) spelled task = subst (SpellsWithoutOffence command_entries words) task spelled
-task_reply words command (Ok (Put outcome)) spelled task = computes_reply command_entries words command (Ok outcome) spelled task
+    → SpellsWithoutOffence all_entries words command → IsTaskOf command result → IsTaskFor words result
+task_reply words command (Ok Lines) spelled task = subst (SpellsWithoutOffence all_entries words) task spelled
+task_reply words command (Ok (Workload lines seed)) spelled task = subst (SpellsWithoutOffence all_entries words) task spelled
+task_reply words command (Ok (Put outcome)) spelled task = computes_reply all_entries words command (Ok outcome) spelled task
 task_reply words command (Err e) spelled task = tt
 
 no_reply : (outcome : Outcome) → IsReplyTo batch (Ok outcome) → ⊥

@@ -32,7 +32,7 @@ use Rattle.calc_replies.specs.declared.tableau_answer.TableauAnswer.TheVariants.
 use Rattle.calc_replies.specs.declared.tableau_answer.TableauAnswer.TheVariants.{Spelled, Straight}
 use Rattle.calc_replies.specs.declared.tableau_answer.TableauAnswer.TheVariants.{Grown}
 use Rattle.calc_replies.specs.declared.listing.Listing.{Listing}
-use Rattle.calc_language.specs.BuiltCommands.{command_entries}
+use Rattle.sym_model.specs.Grammar.{all_entries}
 use Rattle.calc_replies.specs.declared.outcome.Task.{Task}
 use Rattle.calc_replies.specs.declared.outcome.Task.TheVariants.{Lines, Workload, Put}
 use Rattle.calc_replies.specs.declared.outcome.Outcome.{Outcome}
@@ -149,10 +149,10 @@ IsTaskOf command (Err e) = Unit {0}
 
 -- the task for words: to run lines if the words spell `batch` or `work`, and otherwise to write their outcome
 abbrev pub IsTaskFor : List (List ℕ) → Result Task NoMemory → Type 0
-IsTaskFor words (Ok Lines) = SpellsWithoutOffence command_entries words batch
+IsTaskFor words (Ok Lines) = SpellsWithoutOffence all_entries words batch
 IsTaskFor words (Ok (Workload lines seed)) =
-    SpellsWithoutOffence command_entries words (work lines seed)
-IsTaskFor words (Ok (Put outcome)) = Computes command_entries words (Ok outcome)
+    SpellsWithoutOffence all_entries words (work lines seed)
+IsTaskFor words (Ok (Put outcome)) = Computes all_entries words (Ok outcome)
 IsTaskFor words (Err e) = Unit {0}
 
 -- The task for words that spell the command without an error: to run lines, only if the command is `batch`; to run generated lines, only if it is

@@ -5,7 +5,7 @@ ghost use Rattle.sym_model.specs.Command.{Command as PlainCommand};
 ghost use Rattle.sym_model.specs.CommandOffence.{Offence};
 ghost use Rattle.sym_model.specs.Entry.{SpellsWithoutOffence, HasFirstOffence};
 ghost use Rattle.calc_words.specs.Commands.{IsSound};
-ghost use Rattle.calc_language.specs.BuiltCommands.{command_entries};
+ghost use Rattle.sym_model.specs.Grammar.{all_entries};
 ghost use Rattle.sym_model.specs.SyntaxPlace.{IsSyntaxPlace};
 ghost use Rattle.calc_language.specs.Reading.{command_of, IsWithinItsLimits};
 ghost use Rattle.calc_replies.specs.Computed.{reply_of, IsReplyTo, RunsNoOther, IsTaskOf};
@@ -86,13 +86,13 @@ pub(crate) fn answered(answer: Result<Answer, SumFault>, form: Form) -> Result<O
 pub fn task_of(alloc: Global, words: &[String]) -> Result<Task, NoMemory>
     ensures computes { IsTaskFor (map string_bytes words.now) result }
     ensures accepts { (command : PlainCommand)
-        → SpellsWithoutOffence command_entries (map string_bytes words.now) command
+        → SpellsWithoutOffence all_entries (map string_bytes words.now) command
         → AcceptsTask command result }
     ensures refuses { (offence : Offence)
-        → HasFirstOffence command_entries (map string_bytes words.now) (Some offence)
+        → HasFirstOffence all_entries (map string_bytes words.now) (Some offence)
         → RefusesTask offence result }
     ensures goes_wrong { (word byte : ℕ)
-        → IsSyntaxPlace command_entries (map string_bytes words.now) word byte
+        → IsSyntaxPlace all_entries (map string_bytes words.now) word byte
         → TaskGoesWrong word byte result }
 {
     match read_words(alloc, words) {

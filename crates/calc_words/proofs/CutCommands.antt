@@ -1,25 +1,19 @@
 -- Words that are divided into the parts of a command (`AreCut`): the command that they spell, and its errors.
-use Rattle.std.proofs.Common.{◌≡◌, ℕ, true, ◌+◌, List, [], ◌∷◌, ◌++◌, drop, length, refl, sym, ap, ◌∙◌, subst, arith, Ok, flat_map, rules}
-use Rattle.std.proofs.lemmas.List.{append-nil, length-map}
+use Rattle.std.proofs.Common.{◌≡◌, ℕ, true, ◌+◌, List, [], ◌∷◌, drop, length, refl, sym, ap, ◌∙◌, subst, Ok, rules}
+use Rattle.std.proofs.lemmas.List.{append-nil}
 use Rattle.sym_model.specs.Command.{Command}
-use Rattle.sym_model.specs.CommandOffence.{Offence, first_offence, part_offences, permutation_offences_within}
+use Rattle.sym_model.specs.CommandOffence.{Offence, first_offence}
 use Rattle.sym_model.specs.Form.{Written, May, Has, words_of}
-use Rattle.sym_model.specs.Grammar.{mult_offends, skew_offends, coef_offends, reduction_offends, schubmult_offends, dschubmult_offends}
-use Rattle.sym_model.specs.PrintedBlock.{decimal_value}
-use Rattle.sym_model.specs.WordForms.{optional, rows_words, form_words, permutation_words, factors_words, numbers, letters, row_limit_offences}
 use Rattle.word_laws.specs.Words.{Words}
-use Rattle.word_laws.proofs.CutParts.{singles}
 use Rattle.calc_base.specs.declared.words.WordsFault.{WordsFault}
 use Rattle.calc_words.specs.Commands.{command_of, IsSound}
 use Rattle.calc_words.specs.declared.command.Command.{Command as Read}
 use Rattle.calc_words.specs.Reading.{IsRead, IsRefusal, IsFirst}
 use Rattle.calc_words.specs.Parts.{form_of_part, form_of, command_form, parts_offend, IsCut, written_of, AreCut, IsFirstOf, AreFine, are_bounded}
 use Rattle.calc_words.specs.declared.word_parts.Part.{Part}
-use Rattle.calc_words.specs.declared.word_parts.Part.TheVariants.{Minus, Slash, MaybeForm, MaybeRows, Bound, Shape, Letters, Doubled, Factors}
 use Rattle.calc_words.proofs.CutWords.{dropped}
 use Rattle.calc_words.proofs.Commands.{first_refused, read_judged}
 use Rattle.calc_words.proofs.PartOffences.{parts_faulty, parts_fine}
-use Rattle.std.proofs.Math.Nat.{add_assoc}
 
 -- the value that the words of a command denote, from the value x that the words of its parts denote
 abbrev pub said_of : (name : List ℕ) (ps : List Part) → Written (form_of ps) → Written (command_form name ps)
@@ -77,52 +71,3 @@ pub fine : (name : List ℕ) (ps : List Part) (places : List ℕ) (words : Words
 fine name ps places words k says offends c d o h e s i =
     read_judged (record { name = name; form = command_form name ps; says = says; offends = offends }) words (has_of name ps places words k) d s i (Ok c)
     (e, ap first_offence o ∙ parts_fine ps 1 (written_of ps 0 1 places words k.parts) h)
-
--- ---- proofs that the errors of each command are those of its parts
-
-pub mult_parts : (limit : Written (optional rows_words)) (form : Written (optional form_words)) (x : Written factors_words)
-    → mult_offends (tt, (limit, (form, x))) ≡ parts_offend (MaybeRows ∷ MaybeForm ∷ Factors ∷ []) 1 (limit, (form, x))
-mult_parts limit form x = search rules
-
-behind_list : (k : ℕ) (list : Words) → k + length list + 1 ≡ k + length (flat_map (λ t. t ∷ []) list) + 1
-behind_list k list = ap (λ ws. k + length ws + 1) (sym (singles list))
-
-pub skew_parts : (limit : Written (optional rows_words)) (form : Written (optional form_words)) (outer inner : Words)
-    → skew_offends (tt, (limit, (form, (outer, (tt, inner)))))
-    ≡ parts_offend (MaybeRows ∷ MaybeForm ∷ Shape ∷ Slash ∷ Shape ∷ []) 1 (limit, (form, (outer, (tt, inner))))
-skew_parts limit form outer inner =
-    let a = length (words_of (optional rows_words) limit) in
-    let b = length (words_of (optional form_words) form) in
-    ap (λ k. row_limit_offences 1 limit ++ (part_offences k (numbers outer) ++ part_offences (k + length outer + 1) (numbers inner))) (sym (add_assoc 1 a b))
-    ∙ ap (λ k. row_limit_offences 1 limit ++ (part_offences (1 + a + b) (numbers outer) ++ part_offences k (numbers inner))) (behind_list (1 + a + b) outer)
-
-pub coef_parts : (outer left right : Words)
-    → coef_offends (tt, (outer, (tt, (left, (tt, right))))) ≡ parts_offend (Shape ∷ Minus ∷ Shape ∷ Minus ∷ Shape ∷ []) 1 (outer, (tt, (left, (tt, right))))
-coef_parts outer left right =
-    let n = length (flat_map (λ t. t ∷ []) outer) in
-    let e : 2 + length outer ≡ 1 + length outer + 1 = omega arith in
-    ap (λ k. part_offences 1 (numbers outer) ++ (part_offences k (numbers left) ++ part_offences (k + length left + 1) (numbers right)))
-    (e ∙ behind_list 1 outer)
-    ∙ ap (λ k. part_offences 1 (numbers outer) ++ (part_offences (1 + n + 1) (numbers left) ++ part_offences k (numbers right))) (behind_list (1 + n + 1) left)
-
-pub reduction_parts : (name rows bound : List ℕ) (x : Written factors_words)
-    → reduction_offends name (tt, (rows, (bound, x))) ≡ parts_offend (Bound ∷ Bound ∷ Factors ∷ []) 1 (rows, (bound, x))
-reduction_parts name rows bound x = search rules
-
-two_permutations : (most : ℕ) (left right : Written permutation_words)
-    → permutation_offences_within most 1 (letters left) ++ permutation_offences_within most (2 + length (letters left)) (letters right)
-    ≡ permutation_offences_within most 1 (letters left)
-    ++ permutation_offences_within most (1 + length (words_of permutation_words left) + 1) (letters right)
-two_permutations most (t, ts) right =
-    let a = length-map (t ∷ ts) decimal_value in
-    let b = ap length (singles ts) in
-    let e : 2 + length (letters (t, ts)) ≡ 1 + length (words_of permutation_words (t, ts)) + 1 = omega (arith, a, b) in
-    ap (λ k. permutation_offences_within most 1 (letters (t, ts)) ++ permutation_offences_within most k (letters right)) e
-
-pub schubmult_parts : (left right : Written permutation_words)
-    → schubmult_offends (tt, (left, (tt, right))) ≡ parts_offend (Letters ∷ Minus ∷ Letters ∷ []) 1 (left, (tt, right))
-schubmult_parts left right = two_permutations 16 left right
-
-pub dschubmult_parts : (left right : Written permutation_words)
-    → dschubmult_offends (tt, (left, (tt, right))) ≡ parts_offend (Doubled ∷ Minus ∷ Doubled ∷ []) 1 (left, (tt, right))
-dschubmult_parts left right = two_permutations 8 left right

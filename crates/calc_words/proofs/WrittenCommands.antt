@@ -3,18 +3,18 @@ use Rattle.std.proofs.Common.{◌≡◌, ℕ, ◌+◌, ◌-◌, ◌≤◌, ◌==
 use Rattle.std.proofs.lemmas.Bool.{eqb-false}
 use Rattle.std.proofs.lemmas.List.{length-map}
 use Rattle.sym_model.specs.Partition.{without_last_zeros}
-use Rattle.sym_model.specs.Expansion.{Basis}
+use Rattle.sym_model.specs.Permutation.{kept}
 use Rattle.sym_model.specs.PrintedBlock.{decimal_value}
 use Rattle.sym_model.specs.Form.{Written, EachOf}
-use Rattle.sym_model.specs.Command.{Command, quantum}
-use Rattle.sym_model.specs.CommandOffence.{Offence, first_offence, most_factors, part_offences, factor_offences, most_doubled, permutation_offences, permutation_offences_within, offences_by, rows_rule, judged_against}
+use Rattle.sym_model.specs.Command.{Command}
+use Rattle.sym_model.specs.CommandOffence.{Offence, first_offence, most_factors, part_offences, factor_offences, most_doubled, permutation_offences, permutation_offences_within, judged_against}
 use Rattle.sym_model.specs.ExpressionOffence.{range}
 use Rattle.sym_model.specs.Entry.{Entry, SpellsFreely, SpellsWithoutOffence}
-use Rattle.sym_model.specs.WordForms.{optional, rows_words, factors_words, from_words, numbers, factors, factor_numbers, row_limit, row_limit_offences, partition}
-use Rattle.sym_model.specs.Grammar.{entries_of, two_partitions, mult_entry, skew_entry, coef_entry, coprod_entry, tab_entry, last_reading, not_listed, from_entries, quantum_entry, fusion_entry, schubert_entry, schubmult_entry, expand_entry, work_entry, rsk_entry, growth_entry, plethysm_entry, dschubmult_entry, stanley_entry}
+use Rattle.sym_model.specs.WordForms.{optional, rows_words, permutation_words, factors_words, from_words, numbers, letters, factors, factor_numbers, row_limit, row_limit_offences, partition}
+use Rattle.sym_model.specs.Grammar.{all_entries, two_partitions, mult_entry, skew_entry, coef_entry, coprod_entry, tab_entry, last_reading, not_listed, from_entries, quantum_entry, fusion_entry, schubert_entry, schubmult_entry, expand_entry, work_entry, rsk_entry, growth_entry, plethysm_entry, dschubmult_entry, stanley_entry}
 use Rattle.word_laws.specs.Words.{Words}
 use Rattle.word_laws.proofs.FirstOffences.{first_none}
-use Rattle.calc_words.specs.WrittenLimits.{IsWritten, KeepsLimits, IsInList, IsRowLimit, AreWrittenFactors}
+use Rattle.calc_words.specs.WrittenLimits.{IsWritten, KeepsLimits, IsInList, IsRowLimit, IsPermutationWithin, IsWrittenPermutation, AreWrittenFactors}
 use Rattle.calc_words.proofs.WrittenLetters.{letters_within, written_letters}
 use Rattle.calc_words.proofs.WordJudging.{written_word}
 use Rattle.calc_words.proofs.WrittenExpressions.{no_signs, some_denominators}
@@ -26,8 +26,8 @@ use Rattle.sym_model.proofs.Lists.{none_chosen}
 abbrev pub Keeps : Entry → Type 0
 Keeps e = (x : Written e.form) → first_offence (e.offends x) ≡ None → KeepsLimits (e.says x)
 
-kept : (e : Entry) → Keeps e → (words : Words) (c : Command) → SpellsFreely e words c → KeepsLimits c
-kept e k words c h = subst KeepsLimits (sym h.says_it) (k h.has.written h.no_offence)
+spelled_kept : (e : Entry) → Keeps e → (words : Words) (c : Command) → SpellsFreely e words c → KeepsLimits c
+spelled_kept e k words c h = subst KeepsLimits (sym h.says_it) (k h.has.written h.no_offence)
 
 limit_kept : (k : ℕ) (x : Written (optional rows_words)) → first_offence (row_limit_offences k x) ≡ None → IsRowLimit (row_limit x)
 limit_kept k (inl x) h = tt
@@ -57,24 +57,19 @@ mult_keeps : Keeps mult_entry
 mult_keeps (name, (limit, (form, x))) h = search (rules, none_first, limit_kept, factors_written)
 
 skew_keeps : Keeps skew_entry
-skew_keeps (name, (limit, (form, (outer, (slash, inner))))) h = search (rules, none_first, two_written, limit_kept)
+skew_keeps (name, (limit, (form, (outer, (slash, inner))))) h = search (rules, none_first, written, limit_kept)
 
 coef_keeps : Keeps coef_entry
-coef_keeps (name, (outer, (minus, (left, (again, right))))) h = search (rules, none_first, two_written, written)
+coef_keeps (name, (outer, (minus, (left, (again, right))))) h = search (rules, none_first, written)
 
 coprod_keeps : Keeps coprod_entry
 coprod_keeps (name, parts) h = written 1 (numbers parts) h
 
-reduction_keeps : (rows bound : List ℕ) (x : Written factors_words)
-    → first_offence ((offences_by rows_rule 1 (decimal_value rows ∷ []) ++ offences_by rows_rule 2 (decimal_value bound ∷ [])) ++ factor_offences 0 3 (factor_numbers x)) ≡ None
-    → KeepsLimits (quantum (decimal_value rows) (decimal_value bound) (factors x))
-reduction_keeps rows bound x h = search (rules, none_first, row_number, factors_written)
-
 quantum_keeps : Keeps quantum_entry
-quantum_keeps (name, (rows, (columns, x))) h = reduction_keeps rows columns x h
+quantum_keeps (name, (rows, (columns, x))) h = search (rules, none_first, row_number, factors_written)
 
 fusion_keeps : Keeps fusion_entry
-fusion_keeps (name, (rows, (level, x))) h = reduction_keeps rows level x h
+fusion_keeps (name, (rows, (level, x))) h = search (rules, none_first, row_number, factors_written)
 
 last_kept : (k : ℕ) (outer inner : List ℕ) (after : Written (optional from_words)) → first_offence (not_listed k outer inner after) ≡ None
     → IsInList outer inner (last_reading outer inner after)
@@ -91,40 +86,34 @@ tab_keeps (name, (outer, (slash, (inner, after)))) h =
     let w = two_written 1 outer inner q.0 in
     (w.0, w.1, last_kept k (partition outer) (partition inner) after (ap first_offence (sym (none_judged lists last q.0)) ∙ q.1))
 
-expand_keeps : (bases : List Basis) → Keeps (expand_entry bases)
-expand_keeps bases (name, (form, (basis, phrase))) h = search (rules, within_degree, some_denominators)
+expand_keeps : Keeps expand_entry
+expand_keeps (name, (form, (basis, phrase))) h = search (rules, within_degree, some_denominators)
 
-plethysm_keeps : (bases : List Basis) → Keeps (plethysm_entry bases)
-plethysm_keeps bases (name, (basis, (outer, inner))) h =
+plethysm_keeps : Keeps plethysm_entry
+plethysm_keeps (name, (basis, (outer, inner))) h =
     search (rules, none_first, none_append, none_in_word, first_none, none_judged, within_degree, within_limit, not_past, no_signs, some_denominators)
 
+letters_kept : (k : ℕ) (x : Written permutation_words) → first_offence (permutation_offences k (letters x)) ≡ None → IsWrittenPermutation (kept (letters x))
+letters_kept k (t, ts) h = written_letters k (numbers (t ∷ ts)) (omega arith) h
+
+short_kept : (k : ℕ) (x : Written permutation_words) → first_offence (permutation_offences_within most_doubled k (letters x)) ≡ None
+    → IsPermutationWithin most_doubled (kept (letters x))
+short_kept k (t, ts) h = letters_within most_doubled k (numbers (t ∷ ts)) (omega arith) (omega arith) h
+
 schubert_keeps : Keeps schubert_entry
-schubert_keeps (name, (t, ts)) h = written_letters 1 (numbers (t ∷ ts)) (omega arith) h
+schubert_keeps (name, w) h = letters_kept 1 w h
 
 schubmult_keeps : Keeps schubmult_entry
-schubmult_keeps (name, ((t, ts), (minus, (u, us)))) h =
-    let left = numbers (t ∷ ts) in
-    let right = numbers (u ∷ us) in
-    let p = none_first (permutation_offences 1 left) (permutation_offences (2 + length left) right) h in
-    (written_letters 1 left (omega arith) p.0, written_letters (2 + length left) right (omega arith) p.1)
+schubmult_keeps (name, (left, (minus, right))) h = search (rules, none_first, letters_kept)
 
 dschubmult_keeps : Keeps dschubmult_entry
-dschubmult_keeps (name, ((t, ts), (minus, (u, us)))) h =
-    let left = numbers (t ∷ ts) in
-    let right = numbers (u ∷ us) in
-    let p = none_first (permutation_offences_within most_doubled 1 left) (permutation_offences_within most_doubled (2 + length left) right) h in (
-      letters_within most_doubled 1 left (omega arith) (omega arith) p.0,
-      letters_within most_doubled (2 + length left) right (omega arith) (omega arith) p.1,
-    )
+dschubmult_keeps (name, (left, (minus, right))) h = search (rules, none_first, short_kept)
 
 growth_keeps : Keeps growth_entry
-growth_keeps (name, (t, ts)) h = written_letters 1 (numbers (t ∷ ts)) (omega arith) h
+growth_keeps (name, w) h = letters_kept 1 w h
 
 stanley_keeps : Keeps stanley_entry
-stanley_keeps (name, ((option, variables), (t, ts))) h =
-    let w = numbers (t ∷ ts) in
-    let p = none_first (offences_by rows_rule 2 (decimal_value variables ∷ [])) (permutation_offences 3 w) h in
-    (row_number 2 (decimal_value variables) p.0, written_letters 3 w (omega arith) p.1)
+stanley_keeps (name, ((option, variables), w)) h = search (rules, none_first, row_number, letters_kept)
 
 rsk_keeps : Keeps rsk_entry
 rsk_keeps (name, w) h = written_word 1 (numbers w) h
@@ -135,17 +124,17 @@ work_keeps (name, (lines, seed)) h = search rules
 -- if each entry of a list has the property `Keeps`, a command that words spell without an error is within the limits
 pub some_keeps : (entries : List Entry) → EachOf Keeps entries → (words : Words) (c : Command) → SpellsWithoutOffence entries words c → KeepsLimits c
 some_keeps [] k words c h = absurd h
-some_keeps (e ∷ entries) k words c (inl h) = kept e k.0 words c h
+some_keeps (e ∷ entries) k words c (inl h) = spelled_kept e k.0 words c h
 some_keeps (e ∷ entries) k words c (inr h) = some_keeps entries k.1 words c h
 
 both : {P Q : Type 0} → P → Q → P × Q
 both p q = (p, q)
 
-pub all_keep : (bases : List Basis) → EachOf Keeps (entries_of bases)
-all_keep bases =
+pub all_keep : EachOf Keeps all_entries
+all_keep =
     both mult_keeps (both skew_keeps (both coef_keeps (both coprod_keeps (both tab_keeps (both quantum_keeps (both fusion_keeps (both schubert_keeps
-    (both schubmult_keeps (both (expand_keeps bases) (both rsk_keeps (both (λ x h. tt) (both (λ x h. tt) (both growth_keeps
-    (both (plethysm_keeps bases) (both dschubmult_keeps (both stanley_keeps (both (λ x h. tt) (both work_keeps tt))))))))))))))))))
+    (both schubmult_keeps (both expand_keeps (both rsk_keeps (both (λ x h. tt) (both (λ x h. tt) (both growth_keeps
+    (both plethysm_keeps (both dschubmult_keeps (both stanley_keeps (both (λ x h. tt) (both work_keeps tt))))))))))))))))))
 
-pub words_keep : (bases : List Basis) (words : Words) (c : Command) → SpellsWithoutOffence (entries_of bases) words c → KeepsLimits c
-words_keep bases words c h = some_keeps (entries_of bases) (all_keep bases) words c h
+pub words_keep : (words : Words) (c : Command) → SpellsWithoutOffence all_entries words c → KeepsLimits c
+words_keep words c h = some_keeps all_entries all_keep words c h

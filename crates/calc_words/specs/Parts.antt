@@ -1,17 +1,10 @@
 -- The parts of the words of a command: their forms, their errors, and the division of a list of words into parts.
 use Rattle.std.specs.Prelude.{◌≡◌, ◌⊎◌, ℕ, ◌≤◌, ◌<◌, ◌+◌, ◌-◌, Bool, true, false, ◌&&◌, List, []}
-use Rattle.std.specs.Prelude.{◌∷◌, ◌++◌, drop, length, codes, slice_index_or, None}
-use Rattle.sym_model.specs.PrintedBlock.{decimal_value}
-use Rattle.sym_model.specs.CommandOffence.{Offence, first_offence, offences_by, rows_rule}
-use Rattle.sym_model.specs.CommandOffence.{lines_rule, seed_rule, letter_rule, part_offences}
-use Rattle.sym_model.specs.CommandOffence.{most_doubled, permutation_offences}
-use Rattle.sym_model.specs.CommandOffence.{permutation_offences_within, factor_offences}
-use Rattle.sym_model.specs.Form.{Form, empty, word, number, target, formula, sequence, Written, May}
-use Rattle.sym_model.specs.Form.{words_of}
-use Rattle.sym_model.specs.Grammar.{all_bases}
-use Rattle.sym_model.specs.WordForms.{the, optional, rows_words, form_words, partition_words}
-use Rattle.sym_model.specs.WordForms.{permutation_words, factors_words, tableau_words, from_words}
-use Rattle.sym_model.specs.WordForms.{numbers, letters, factor_numbers, row_limit_offences}
+use Rattle.std.specs.Prelude.{◌∷◌, ◌++◌, map, drop, length, slice_index_or, None}
+use Rattle.sym_model.specs.CommandOffence.{Offence, first_offence, rows_rule, lines_rule, seed_rule}
+use Rattle.sym_model.specs.Form.{Form, sequence, Written, May, words_of}
+use Rattle.sym_model.specs.Grammar as grammar
+use Rattle.sym_model.specs.WordForms.{the}
 use Rattle.sym_model.specs.Entry.{Entry}
 use Rattle.sym_model.specs.Phrase.{Phrase, SpellsPhrase}
 use Rattle.sym_model.specs.SyntaxPlace.{IsSyntaxPlace}
@@ -27,31 +20,33 @@ use Rattle.calc_words.specs.declared.word_parts.Part.TheVariants.{Shape, Word, L
 use Rattle.calc_words.specs.declared.word_parts.Part.TheVariants.{Factors, Tableau, MaybeFrom}
 use Rattle.calc_words.specs.declared.word_parts.Part.TheVariants.{Target, Expression}
 
+-- the part of the grammar that is read as this part
+abbrev pub part_of : Part → grammar.Part
+part_of Minus = grammar.minus
+part_of Slash = grammar.slash
+part_of MaybeForm = grammar.maybe_form
+part_of Rows = grammar.rows
+part_of MaybeRows = grammar.maybe_rows
+part_of Bound = grammar.number_by rows_rule
+part_of Lines = grammar.number_by lines_rule
+part_of Seed = grammar.number_by seed_rule
+part_of Shape = grammar.one_partition
+part_of Word = grammar.letter_list
+part_of Letters = grammar.one_permutation
+part_of Doubled = grammar.short_permutation
+part_of Factors = grammar.factor_list
+part_of Tableau = grammar.one_tableau
+part_of MaybeFrom = grammar.maybe_from
+part_of Target = grammar.one_basis
+part_of Expression = grammar.one_expression
+
 -- the form of the words of a part
 abbrev pub form_of_part : Part → Form
-form_of_part Minus = the (codes "-")
-form_of_part Slash = the (codes "/")
-form_of_part MaybeForm = optional form_words
-form_of_part Rows = rows_words
-form_of_part MaybeRows = optional rows_words
-form_of_part Bound = word number
-form_of_part Lines = word number
-form_of_part Seed = word number
-form_of_part Shape = partition_words
-form_of_part Word = partition_words
-form_of_part Letters = permutation_words
-form_of_part Doubled = permutation_words
-form_of_part Factors = factors_words
-form_of_part Tableau = tableau_words
-form_of_part MaybeFrom = optional from_words
-form_of_part Target = word (target all_bases)
-form_of_part Expression = word formula
+form_of_part p = (part_of p).form
 
 -- the form of the words of these parts, one part after another
 abbrev pub form_of : List Part → Form
-form_of [] = empty
-form_of (p ∷ []) = form_of_part p
-form_of (p ∷ q ∷ ps) = sequence (form_of_part p) (form_of (q ∷ ps))
+form_of ps = grammar.form_of (map part_of ps)
 
 -- the form of the words of a command: its name, followed by its parts
 abbrev pub command_form : List ℕ → List Part → Form
@@ -64,26 +59,13 @@ abbrev pub is_clear : List Part → Bool
 is_clear [] = true
 is_clear (p ∷ ps) = are_apart (continuing (form_of_part p)) (firsts (form_of ps)) && is_clear ps
 
--- the errors of a part whose first word is word k; tableaux and expressions are tested together with other parts, and have no error here
+-- the errors of a part whose first word is word k
 abbrev pub part_offends : (p : Part) → ℕ → Written (form_of_part p) → List Offence
-part_offends Rows k x = offences_by rows_rule (k + 1) (decimal_value x.1 ∷ [])
-part_offends MaybeRows k x = row_limit_offences k x
-part_offends Bound k x = offences_by rows_rule k (decimal_value x ∷ [])
-part_offends Lines k x = offences_by lines_rule k (decimal_value x ∷ [])
-part_offends Seed k x = offences_by seed_rule k (decimal_value x ∷ [])
-part_offends Shape k x = part_offences k (numbers x)
-part_offends Word k x = offences_by letter_rule k (numbers x)
-part_offends Letters k x = permutation_offences k (letters x)
-part_offends Doubled k x = permutation_offences_within most_doubled k (letters x)
-part_offends Factors k x = factor_offences 0 k (factor_numbers x)
-part_offends p k x = []
+part_offends p = (part_of p).offends
 
 -- the errors of these parts, if the first part begins at word k
 abbrev pub parts_offend : (ps : List Part) → ℕ → Written (form_of ps) → List Offence
-parts_offend [] k x = []
-parts_offend (p ∷ []) k x = part_offends p k x
-parts_offend (p ∷ q ∷ ps) k x =
-    part_offends p k x.0 ++ parts_offend (q ∷ ps) (k + length (words_of (form_of_part p) x.0)) x.1
+parts_offend ps = grammar.offends_of (map part_of ps)
 
 -- `piece` is the list of the words of part i, counted from 0, and begins at word k: entry i of `places` is k, and entry i + 1 is the index of the
 -- word after `piece`

@@ -4,26 +4,22 @@ use Rattle.std.specs.Prelude.{ℕ, List, [], ◌++◌, Some, codes, replicate}
 use Rattle.std.proofs.Common.{zero, suc}
 use Rattle.sym_model.specs.Command.{Command}
 use Rattle.sym_model.specs.CommandOffence.{Offence}
-use Rattle.sym_model.specs.Entry.{Entry, HasFirstOffence, SpellsWithoutOffence}
-use Rattle.sym_model.specs.Grammar.{entries_of, all_bases}
+use Rattle.sym_model.specs.Entry.{HasFirstOffence, SpellsWithoutOffence}
+use Rattle.sym_model.specs.Grammar.{all_entries}
 use Rattle.sym_model.specs.SyntaxPlace.{IsSyntaxPlace}
 use Rattle.sym_model.specs.BatchLine.{words_of_line}
 
--- all commands of the calculator, with all bases allowed as target bases
-abbrev pub all_commands : List Entry
-all_commands = entries_of all_bases
-
 -- the words of the line spell the command, without an error
 abbrev pub Says : List ℕ → Command → Type 0
-Says line command = SpellsWithoutOffence all_commands (words_of_line line) command
+Says line command = SpellsWithoutOffence all_entries (words_of_line line) command
 
 -- the words of the line spell a command whose first error is this one
 abbrev pub Offends : List ℕ → Offence → Type 0
-Offends line first = HasFirstOffence all_commands (words_of_line line) (Some first)
+Offends line first = HasFirstOffence all_entries (words_of_line line) (Some first)
 
 -- the words of the line spell no command, and their first error of syntax is at this word and byte
 abbrev pub GoesWrong : List ℕ → ℕ → ℕ → Type 0
-GoesWrong line word byte = IsSyntaxPlace all_commands (words_of_line line) word byte
+GoesWrong line word byte = IsSyntaxPlace all_entries (words_of_line line) word byte
 
 -- n copies of a text, each with a space after it
 abbrev pub repeated : ℕ → List ℕ → List ℕ

@@ -9,10 +9,10 @@ ghost use Rattle.sym_model.specs.ExpressionOffence.{literal, range, shape};
 ghost use Rattle.sym_model.specs.Command.{mult, skew, coprod, quantum, tab, schubert, schubmult};
 ghost use Rattle.sym_model.specs.Command.{expand, rsk, unrsk, rect, plethysm, dschubmult, stanley};
 ghost use Rattle.sym_model.specs.Command.{work};
-ghost use Rattle.sym_model.specs.Grammar.{line_entries, all_bases};
+ghost use Rattle.sym_model.specs.Grammar.{all_entries, line_entries};
 ghost use Rattle.sym_model.specs.SyntaxPlace.{IsSyntaxPlace};
 ghost use Rattle.sym_model.specs.BatchLine.{words_of_line};
-ghost use Rattle.worked_examples.specs.Examples.{all_commands, Says, Offends, GoesWrong, repeated};
+ghost use Rattle.worked_examples.specs.Examples.{Says, Offends, GoesWrong, repeated};
 ghost use Rattle.worked_examples.specs.Examples.{zeros_of};
 
 /// Words that are no command, each with the place of its first error of syntax: a word and a byte
@@ -28,7 +28,7 @@ pub fn words_that_go_wrong_law()
     ensures two_minus { GoesWrong (codes "expand m --1") 2 1 }
     ensures minus_inside { GoesWrong (codes "expand m 2*-1") 2 2 }
     ensures past_ascii { GoesWrong (codes "expand m p[" ++ (195 ∷ 169 ∷ codes "]")) 2 2 }
-    ensures empty_word { IsSyntaxPlace all_commands (codes "expand" ∷ codes "m" ∷ [] ∷ []) 2 0 }
+    ensures empty_word { IsSyntaxPlace all_entries (codes "expand" ∷ codes "m" ∷ [] ∷ []) 2 0 }
     ensures no_expression { GoesWrong (codes "expand m") 2 0 }
     ensures a_word_more { GoesWrong (codes "expand m 1 1") 3 0 }
     ensures form_before_rows { GoesWrong (codes "mult -m -r 2 1 - 1") 2 0 }
@@ -41,11 +41,11 @@ pub fn words_that_go_wrong_law()
     ensures no_rows { GoesWrong (codes "stanley 1") 1 0 }
     ensures slash_twice { GoesWrong (codes "skew / / 1") 2 0 }
     ensures more_than_batch { GoesWrong (codes "batch x") 1 0 }
-    ensures no_batch_in_a_batch { IsSyntaxPlace (line_entries all_bases)
+    ensures no_batch_in_a_batch { IsSyntaxPlace line_entries
         (words_of_line (codes "batch")) 0 0 }
-    ensures no_work_in_a_batch { IsSyntaxPlace (line_entries all_bases)
+    ensures no_work_in_a_batch { IsSyntaxPlace line_entries
         (words_of_line (codes "work 1 0")) 0 0 }
-    ensures byte_255 { IsSyntaxPlace (line_entries all_bases)
+    ensures byte_255 { IsSyntaxPlace line_entries
         (words_of_line (codes "mult 1 - " ++ (255 ∷ []))) 3 0 }
 {}
 

@@ -1,7 +1,7 @@
 use Rattle.std.proofs.Common.{[], ◌∷◌, Ok, subst, sym, refl}
 use Rattle.std.proofs.lemmas.Result.{err_from_is_err_and}
 use Rattle.std.specs.Prelude.{codes}
-use Rattle.sym_model.specs.Grammar.{all_bases, expand_entry}
+use Rattle.sym_model.specs.Grammar.{expand_entry}
 use Rattle.expression_reading.specs.Reading.{IsRead}
 use Rattle.expression_reading.specs.Trees.{basis_of}
 use Rattle.calc_words.specs.Reading.{IsRefusal}
@@ -12,7 +12,7 @@ use Rattle.calc_language.proofs.expand.read_expand.Goals as goal
 pub returns-in_err-places : goal.returns-in_err-places
 returns-in_err-places c =
     let p = err_from_is_err_and c.from_residual.result c.from_residual.ensures.1 in
-    rw (p.1, p.2) (c.in_err-places.ensures.wrong (expand_entry all_bases) refl)
+    rw (p.1, p.2) (c.in_err-places.ensures.wrong expand_entry refl)
 
 pub returns-in-Ok : goal.returns-in-Ok
 returns-in-Ok c =
@@ -29,7 +29,7 @@ returns-in-Ok c =
 
 pub returns-in-Err : goal.returns-in-Err
 returns-in-Err c =
-    subst (IsRefusal (expand_entry all_bases ∷ []) _) (sym c.placed.ensures)
+    subst (IsRefusal (expand_entry ∷ []) _) (sym c.placed.ensures)
     (expand_refused _ c.in_ok-places.places c.in_ok-places.ensures.cut
     (basis_of c.target_of-target.result) _ c.text_of.result.now c.in-Err.fault
     (λ u. let last = c.piece_at-last.ensures.is _ _ u.piece in (last.0, c.text_of.ensures _ last.1))

@@ -5,7 +5,7 @@ use Rattle.std.proofs.lemmas.Result.{err_from_is_err_and}
 use Rattle.sym_model.specs.BatchLine.{most_bytes, words_of_line}
 use Rattle.calc_words.specs.LineBytes.{seen, is_passed_over}
 use Rattle.calc_words.specs.Reading.{IsRead}
-use Rattle.calc_language.specs.BuiltCommands.{batch_entries}
+use Rattle.sym_model.specs.Grammar.{line_entries}
 use Rattle.calc_language.proofs.LineCommands.{line_read}
 use Rattle.calc_language.proofs.lines.read.Goals as goal
 
@@ -22,7 +22,7 @@ returns c =
     sym (ap (λ xs. is_passed_over (map string_bytes xs)) c.as_slice.ensures.value)
     ∙ sym c.are_passed_over.ensures ∙ c.if-are_passed_over.false in
     line_read line kept (Ok command) short same some
-    (subst (λ xs. IsRead batch_entries (map string_bytes xs) (Ok command))
+    (subst (λ xs. IsRead line_entries (map string_bytes xs) (Ok command))
     c.as_slice-2.ensures.value c.in_ok-command.ensures)
 
 pub returns-in_err-command : goal.returns-in_err-command
@@ -41,5 +41,5 @@ returns-in_err-command c =
     ∙ sym c.are_passed_over.ensures ∙ c.if-are_passed_over.false in
     rw (p.1, p.2)
     (line_read line kept (Err fault) short same some
-    (subst (λ xs. IsRead batch_entries (map string_bytes xs) (Err fault)) c.as_slice-2.ensures.value
+    (subst (λ xs. IsRead line_entries (map string_bytes xs) (Err fault)) c.as_slice-2.ensures.value
     c.in_err-command.ensures))

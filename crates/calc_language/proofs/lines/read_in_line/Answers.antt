@@ -1,7 +1,7 @@
 -- The words of a line of a batch are read as the words of the command whose name is their first word.
 use Rattle.std.proofs.Common.{map, Err, ap, subst, ◌≡◌, ◌∙◌, ◌⊎◌}
 use Rattle.std.specs.Prelude.{string_bytes, codes}
-use Rattle.calc_language.specs.BuiltCommands.{command_entries, batch_entries}
+use Rattle.sym_model.specs.Grammar.{all_entries, line_entries}
 use Rattle.calc_language.specs.Reading.{IsReadAs, entry_named}
 use Rattle.calc_words.proofs.CutWords.{empty_map}
 use Rattle.calc_language.proofs.Entries.{read_in_line, no_words, lines_told, elsewhere, runs_others}
@@ -9,7 +9,7 @@ use Rattle.calc_language.proofs.lines.read_in_line.Goals as goal
 
 pub returns-in_default : goal.returns-in_default
 returns-in_default c =
-    no_words (map string_bytes c.args.words.now) _ batch_entries lines_told
+    no_words (map string_bytes c.args.words.now) _ line_entries lines_told
     (empty_map string_bytes c.args.words.now c.in_default.ensures.cases)
     (ap Err c.syntax.ensures)
 
@@ -20,7 +20,7 @@ returns-in_default-as_str c =
     (map string_bytes c.in-Some.field-0-1.now) c.by_name.result
     (ap (map string_bytes) c.in-Some.ensures.cases.0)
     (λ h. c.in_default-as_str.not-batch (is ∙ h)) (λ h. c.in_default-as_str.not-work (is ∙ h))
-    (subst (λ v. IsReadAs (entry_named v command_entries) (map string_bytes c.args.words.now)
+    (subst (λ v. IsReadAs (entry_named v all_entries) (map string_bytes c.args.words.now)
     c.by_name.result) is c.by_name.ensures)
 
 pub returns-in-batch : goal.returns-in-batch

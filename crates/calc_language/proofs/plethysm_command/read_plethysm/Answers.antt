@@ -1,6 +1,6 @@
 use Rattle.std.proofs.Common.{subst, sym, refl}
 use Rattle.std.proofs.lemmas.Result.{err_from_is_err_and}
-use Rattle.sym_model.specs.Grammar.{all_bases, plethysm_entry}
+use Rattle.sym_model.specs.Grammar.{plethysm_entry}
 use Rattle.sym_model.specs.Phrase.{SpellsPhrase}
 use Rattle.expression_reading.specs.Trees.{basis_of}
 use Rattle.calc_language.proofs.PlethysmJudging.{plethysm_read}
@@ -9,7 +9,7 @@ use Rattle.calc_language.proofs.plethysm_command.read_plethysm.Goals as goal
 pub returns-in_err-places : goal.returns-in_err-places
 returns-in_err-places c =
     let p = err_from_is_err_and c.from_residual.result c.from_residual.ensures.1 in
-    rw (p.1, p.2) (c.in_err-places.ensures.wrong (plethysm_entry all_bases) refl)
+    rw (p.1, p.2) (c.in_err-places.ensures.wrong plethysm_entry refl)
 
 pub returns : goal.returns
 returns c =

@@ -1,7 +1,7 @@
 use Rattle.std.proofs.Common.{List, [], ◌∷◌, map, refl, ap, ◌∙◌, inl, inr}
 use Rattle.std.specs.Prelude.{string_bytes, codes}
 use Rattle.std.proofs.lemmas.Result.{err_from_is_err_and}
-use Rattle.sym_model.specs.Grammar.{work_entry, work_says, work_offends}
+use Rattle.sym_model.specs.Grammar.{work_entry}
 use Rattle.sym_model.specs.PrintedBlock.{decimal_value}
 use Rattle.calc_words.specs.declared.command.Command.TheVariants.{Work}
 use Rattle.calc_words.specs.declared.word_parts.Part.{Part}
@@ -23,7 +23,7 @@ returns-in_err-lines c =
     let k = c.in_ok-places.ensures.cut in
     let p = err_from_is_err_and c.from_residual-in_err-lines.result
     c.from_residual-in_err-lines.ensures.1 in
-    rw (p.1, p.2) (faulty (codes "work") parts c.in_ok-places.places words k work_says work_offends
+    rw (p.1, p.2) (faulty (codes "work") parts c.in_ok-places.places words k work_entry.says work_entry.offends
     _ refl refl
     (inl (c.in_err-lines.ensures _ k.parts.0 (c.piece_at-first.ensures.is _ _ k.parts.2))))
 
@@ -34,7 +34,7 @@ returns-in_err-seed c =
     let lines = c.in_ok-lines.ensures _ k.parts.0 (c.piece_at-first.ensures.is _ _ k.parts.2) in
     let p = err_from_is_err_and c.from_residual-in_err-seed.result
     c.from_residual-in_err-seed.ensures.1 in
-    rw (p.1, p.2) (faulty (codes "work") parts c.in_ok-places.places words k work_says work_offends
+    rw (p.1, p.2) (faulty (codes "work") parts c.in_ok-places.places words k work_entry.says work_entry.offends
     _ refl refl
     (inr (
       lines.1,
@@ -48,7 +48,7 @@ returns c =
     let k = c.in_ok-places.ensures.cut in
     let lines = c.in_ok-lines.ensures _ k.parts.0 (c.piece_at-first.ensures.is _ _ k.parts.2) in
     let seed = c.in_ok-seed.ensures _ k.parts.3.0 (c.piece_at-second.ensures.is _ _ k.parts.3.2) in
-    fine (codes "work") parts c.in_ok-places.places words k work_says work_offends _ _ refl
+    fine (codes "work") parts c.in_ok-places.places words k work_entry.says work_entry.offends _ _ refl
     (lines.1, seed.1)
     (ap (λ x. Work x c.in_ok-seed.seed) lines.0 ∙ ap (λ x. Work (decimal_value k.parts.0) x) seed.0)
     refl tt

@@ -1,7 +1,7 @@
 use Rattle.std.proofs.Common.{List, [], ◌∷◌, map, refl, ap}
 use Rattle.std.specs.Prelude.{string_bytes, codes}
 use Rattle.std.proofs.lemmas.Result.{err_from_is_err_and}
-use Rattle.sym_model.specs.Grammar.{rsk_entry, rsk_says, rsk_offends}
+use Rattle.sym_model.specs.Grammar.{rsk_entry}
 use Rattle.calc_words.specs.declared.command.Command.TheVariants.{Rsk}
 use Rattle.calc_words.specs.declared.word_parts.Part.{Part}
 use Rattle.calc_words.specs.declared.word_parts.Part.TheVariants.{Word}
@@ -22,7 +22,7 @@ returns-in_err-letters c =
     let k = c.in_ok-places.ensures.cut in
     let p = err_from_is_err_and c.from_residual-in_err-letters.result
     c.from_residual-in_err-letters.ensures.1 in
-    rw (p.1, p.2) (faulty (codes "rsk") parts c.in_ok-places.places words k rsk_says rsk_offends _
+    rw (p.1, p.2) (faulty (codes "rsk") parts c.in_ok-places.places words k rsk_entry.says rsk_entry.offends _
     refl refl
     (c.in_err-letters.ensures _ k.parts.0 (c.piece_at-list.ensures.is _ _ k.parts.2)))
 
@@ -31,5 +31,5 @@ returns c =
     let words = map string_bytes c.args.words.now in
     let k = c.in_ok-places.ensures.cut in
     let letters = c.in_ok-letters.ensures _ k.parts.0 (c.piece_at-list.ensures.is _ _ k.parts.2) in
-    fine (codes "rsk") parts c.in_ok-places.places words k rsk_says rsk_offends _ _ refl letters.1
+    fine (codes "rsk") parts c.in_ok-places.places words k rsk_entry.says rsk_entry.offends _ _ refl letters.1
     (ap (λ x. Rsk x) letters.0) refl tt

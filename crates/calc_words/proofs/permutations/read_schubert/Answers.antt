@@ -1,7 +1,7 @@
 use Rattle.std.proofs.Common.{List, [], ◌∷◌, map, refl, ap}
 use Rattle.std.specs.Prelude.{string_bytes, codes}
 use Rattle.std.proofs.lemmas.Result.{err_from_is_err_and}
-use Rattle.sym_model.specs.Grammar.{schubert_entry, schubert_says, schubert_offends}
+use Rattle.sym_model.specs.Grammar.{schubert_entry}
 use Rattle.calc_words.specs.declared.command.Command.TheVariants.{Schubert}
 use Rattle.calc_words.specs.declared.word_parts.Part.{Part}
 use Rattle.calc_words.specs.declared.word_parts.Part.TheVariants.{Letters}
@@ -22,8 +22,8 @@ returns-in_err-perm c =
     let k = c.in_ok-places.ensures.cut in
     let p = err_from_is_err_and c.from_residual-in_err-perm.result
     c.from_residual-in_err-perm.ensures.1 in
-    rw (p.1, p.2) (faulty (codes "schubert") parts c.in_ok-places.places words k schubert_says
-    schubert_offends _ refl refl
+    rw (p.1, p.2) (faulty (codes "schubert") parts c.in_ok-places.places words k schubert_entry.says
+    schubert_entry.offends _ refl refl
     (c.in_err-perm.ensures _ k.parts.0 (c.piece_at-list.ensures.is _ _ k.parts.2)))
 
 pub returns : goal.returns
@@ -31,6 +31,6 @@ returns c =
     let words = map string_bytes c.args.words.now in
     let k = c.in_ok-places.ensures.cut in
     let perm = c.in_ok-perm.ensures _ k.parts.0 (c.piece_at-list.ensures.is _ _ k.parts.2) in
-    fine (codes "schubert") parts c.in_ok-places.places words k schubert_says schubert_offends _ _
+    fine (codes "schubert") parts c.in_ok-places.places words k schubert_entry.says schubert_entry.offends _ _
     refl perm.1
     (ap (λ x. Schubert x) perm.0) refl tt

@@ -1,7 +1,7 @@
 use Rattle.std.proofs.Common.{List, [], ◌∷◌, map, refl, ap, ◌∙◌, inl, inr}
 use Rattle.std.specs.Prelude.{string_bytes, codes}
 use Rattle.std.proofs.lemmas.Result.{err_from_is_err_and}
-use Rattle.sym_model.specs.Grammar.{stanley_entry, stanley_says, stanley_offends}
+use Rattle.sym_model.specs.Grammar.{stanley_entry}
 use Rattle.sym_model.specs.PrintedBlock.{decimal_value}
 use Rattle.calc_words.specs.declared.command.Command.TheVariants.{Stanley}
 use Rattle.calc_words.specs.declared.word_parts.Part.{Part}
@@ -23,8 +23,8 @@ returns-in_err-rows c =
     let k = c.in_ok-places.ensures.cut in
     let p = err_from_is_err_and c.from_residual-in_err-rows.result
     c.from_residual-in_err-rows.ensures.1 in
-    rw (p.1, p.2) (faulty (codes "stanley") parts c.in_ok-places.places words k stanley_says
-    stanley_offends _ refl refl
+    rw (p.1, p.2) (faulty (codes "stanley") parts c.in_ok-places.places words k stanley_entry.says
+    stanley_entry.offends _ refl refl
     (inl (c.in_err-rows.ensures _ k.parts.0 (c.piece_at-limit.ensures.is _ _ k.parts.2))))
 
 pub returns-in_err-perm : goal.returns-in_err-perm
@@ -34,8 +34,8 @@ returns-in_err-perm c =
     let rows = c.in_ok-rows.ensures _ k.parts.0 (c.piece_at-limit.ensures.is _ _ k.parts.2) in
     let p = err_from_is_err_and c.from_residual-in_err-perm.result
     c.from_residual-in_err-perm.ensures.1 in
-    rw (p.1, p.2) (faulty (codes "stanley") parts c.in_ok-places.places words k stanley_says
-    stanley_offends _ refl refl
+    rw (p.1, p.2) (faulty (codes "stanley") parts c.in_ok-places.places words k stanley_entry.says
+    stanley_entry.offends _ refl refl
     (inr (
       rows.1,
       c.in_err-perm.ensures _ k.parts.3.0
@@ -48,7 +48,7 @@ returns c =
     let k = c.in_ok-places.ensures.cut in
     let rows = c.in_ok-rows.ensures _ k.parts.0 (c.piece_at-limit.ensures.is _ _ k.parts.2) in
     let perm = c.in_ok-perm.ensures _ k.parts.3.0 (c.piece_at-list.ensures.is _ _ k.parts.3.2) in
-    fine (codes "stanley") parts c.in_ok-places.places words k stanley_says stanley_offends _ _ refl
+    fine (codes "stanley") parts c.in_ok-places.places words k stanley_entry.says stanley_entry.offends _ _ refl
     (rows.1, perm.1)
     (ap (λ x. Stanley x c.in_ok-perm.perm) rows.0 ∙ ap (λ x. Stanley (decimal_value k.parts.0.1) x)
     perm.0) refl tt

@@ -1,12 +1,12 @@
 use Rattle.std.proofs.Common.{List, [], ◌∷◌, map, refl, ap, ◌∙◌, inl, inr}
 use Rattle.std.specs.Prelude.{string_bytes, codes}
 use Rattle.std.proofs.lemmas.Result.{err_from_is_err_and}
-use Rattle.sym_model.specs.Grammar.{coef_entry, coef_says, coef_offends}
+use Rattle.sym_model.specs.Grammar.{coef_entry}
 use Rattle.sym_model.specs.WordForms.{partition}
 use Rattle.calc_words.specs.declared.command.Command.TheVariants.{Coef}
 use Rattle.calc_words.specs.declared.word_parts.Part.{Part}
 use Rattle.calc_words.specs.declared.word_parts.Part.TheVariants.{Minus, Shape}
-use Rattle.calc_words.proofs.CutCommands.{faulty, fine, coef_parts}
+use Rattle.calc_words.proofs.CutCommands.{faulty, fine}
 use Rattle.calc_words.proofs.products.read_coef.Goals as goal
 
 abbrev parts : List Part
@@ -23,8 +23,8 @@ returns-in_err-outer c =
     let k = c.in_ok-places.ensures.cut in
     let p = err_from_is_err_and c.from_residual-in_err-outer.result
     c.from_residual-in_err-outer.ensures.1 in
-    rw (p.1, p.2) (faulty (codes "coef") parts c.in_ok-places.places words k coef_says coef_offends
-    _ (coef_parts k.parts.0 k.parts.3.3.0 k.parts.3.3.3.3.0) refl
+    rw (p.1, p.2) (faulty (codes "coef") parts c.in_ok-places.places words k coef_entry.says coef_entry.offends
+    _ refl refl
     (inl (c.in_err-outer.ensures _ k.parts.0 (c.piece_at-first.ensures.is _ _ k.parts.2))))
 
 pub returns-in_err-left : goal.returns-in_err-left
@@ -34,8 +34,8 @@ returns-in_err-left c =
     let outer = c.in_ok-outer.ensures _ k.parts.0 (c.piece_at-first.ensures.is _ _ k.parts.2) in
     let p = err_from_is_err_and c.from_residual-in_err-left.result
     c.from_residual-in_err-left.ensures.1 in
-    rw (p.1, p.2) (faulty (codes "coef") parts c.in_ok-places.places words k coef_says coef_offends
-    _ (coef_parts k.parts.0 k.parts.3.3.0 k.parts.3.3.3.3.0) refl
+    rw (p.1, p.2) (faulty (codes "coef") parts c.in_ok-places.places words k coef_entry.says coef_entry.offends
+    _ refl refl
     (inr (
       outer.1,
       inr (
@@ -54,8 +54,8 @@ returns-in_err-right c =
     in
     let p = err_from_is_err_and c.from_residual-in_err-right.result
     c.from_residual-in_err-right.ensures.1 in
-    rw (p.1, p.2) (faulty (codes "coef") parts c.in_ok-places.places words k coef_says coef_offends
-    _ (coef_parts k.parts.0 k.parts.3.3.0 k.parts.3.3.3.3.0) refl
+    rw (p.1, p.2) (faulty (codes "coef") parts c.in_ok-places.places words k coef_entry.says coef_entry.offends
+    _ refl refl
     (inr (
       outer.1,
       inr (
@@ -80,8 +80,8 @@ returns c =
     in
     let right = c.in_ok-right.ensures _ k.parts.3.3.3.3.0
     (c.piece_at-third.ensures.is _ _ k.parts.3.3.3.3.2) in
-    fine (codes "coef") parts c.in_ok-places.places words k coef_says coef_offends _ _
-    (coef_parts k.parts.0 k.parts.3.3.0 k.parts.3.3.3.3.0) (
+    fine (codes "coef") parts c.in_ok-places.places words k coef_entry.says coef_entry.offends _ _
+    refl (
       outer.1,
       (refl, (left.1, (refl, right.1))),
     )

@@ -1,7 +1,7 @@
 use Rattle.std.proofs.Common.{List, [], ◌∷◌, map, refl, ap}
 use Rattle.std.specs.Prelude.{string_bytes, codes}
 use Rattle.std.proofs.lemmas.Result.{err_from_is_err_and}
-use Rattle.sym_model.specs.Grammar.{coprod_entry, coprod_says, coprod_offends}
+use Rattle.sym_model.specs.Grammar.{coprod_entry}
 use Rattle.calc_words.specs.declared.command.Command.TheVariants.{Coprod}
 use Rattle.calc_words.specs.declared.word_parts.Part.{Part}
 use Rattle.calc_words.specs.declared.word_parts.Part.TheVariants.{Shape}
@@ -22,8 +22,8 @@ returns-in_err-shape c =
     let k = c.in_ok-places.ensures.cut in
     let p = err_from_is_err_and c.from_residual-in_err-shape.result
     c.from_residual-in_err-shape.ensures.1 in
-    rw (p.1, p.2) (faulty (codes "coprod") parts c.in_ok-places.places words k coprod_says
-    coprod_offends _ refl refl
+    rw (p.1, p.2) (faulty (codes "coprod") parts c.in_ok-places.places words k coprod_entry.says
+    coprod_entry.offends _ refl refl
     (c.in_err-shape.ensures _ k.parts.0 (c.piece_at-list.ensures.is _ _ k.parts.2)))
 
 pub returns : goal.returns
@@ -31,6 +31,6 @@ returns c =
     let words = map string_bytes c.args.words.now in
     let k = c.in_ok-places.ensures.cut in
     let shape = c.in_ok-shape.ensures _ k.parts.0 (c.piece_at-list.ensures.is _ _ k.parts.2) in
-    fine (codes "coprod") parts c.in_ok-places.places words k coprod_says coprod_offends _ _ refl
+    fine (codes "coprod") parts c.in_ok-places.places words k coprod_entry.says coprod_entry.offends _ _ refl
     shape.1
     (ap (λ x. Coprod x) shape.0) refl tt

@@ -1,12 +1,12 @@
 use Rattle.std.proofs.Common.{List, [], ◌∷◌, map, refl, ap, ◌∙◌, inl, inr}
 use Rattle.std.specs.Prelude.{string_bytes, codes}
 use Rattle.std.proofs.lemmas.Result.{err_from_is_err_and}
-use Rattle.sym_model.specs.Grammar.{mult_entry, mult_says, mult_offends}
+use Rattle.sym_model.specs.Grammar.{mult_entry}
 use Rattle.sym_model.specs.WordForms.{is_one_line, row_limit}
 use Rattle.calc_words.specs.declared.command.Command.TheVariants.{Mult}
 use Rattle.calc_words.specs.declared.word_parts.Part.{Part}
 use Rattle.calc_words.specs.declared.word_parts.Part.TheVariants.{Factors, MaybeForm, MaybeRows}
-use Rattle.calc_words.proofs.CutCommands.{faulty, fine, mult_parts}
+use Rattle.calc_words.proofs.CutCommands.{faulty, fine}
 use Rattle.calc_words.proofs.products.read_mult.Goals as goal
 
 abbrev parts : List Part
@@ -23,8 +23,8 @@ returns-in_err-rows c =
     let k = c.in_ok-places.ensures.cut in
     let p = err_from_is_err_and c.from_residual-in_err-rows.result
     c.from_residual-in_err-rows.ensures.1 in
-    rw (p.1, p.2) (faulty (codes "mult") parts c.in_ok-places.places words k mult_says mult_offends
-    _ (mult_parts k.parts.0 k.parts.3.0 k.parts.3.3.0) refl
+    rw (p.1, p.2) (faulty (codes "mult") parts c.in_ok-places.places words k mult_entry.says mult_entry.offends
+    _ refl refl
     (inl (c.in_err-rows.ensures _ k.parts.0 (c.piece_at-limit.ensures.is _ _ k.parts.2))))
 
 pub returns-in_err-factors : goal.returns-in_err-factors
@@ -34,8 +34,8 @@ returns-in_err-factors c =
     let rows = c.in_ok-rows.ensures _ k.parts.0 (c.piece_at-limit.ensures.is _ _ k.parts.2) in
     let p = err_from_is_err_and c.from_residual-in_err-factors.result
     c.from_residual-in_err-factors.ensures.1 in
-    rw (p.1, p.2) (faulty (codes "mult") parts c.in_ok-places.places words k mult_says mult_offends
-    _ (mult_parts k.parts.0 k.parts.3.0 k.parts.3.3.0) refl
+    rw (p.1, p.2) (faulty (codes "mult") parts c.in_ok-places.places words k mult_entry.says mult_entry.offends
+    _ refl refl
     (inr (
       rows.1,
       inr (
@@ -54,8 +54,8 @@ returns c =
     (c.piece_at-list.ensures.is _ _ k.parts.3.3.2) in
     let one_line = c.maybe_form_of-one_line.ensures k.parts.3.0
     (c.piece_at-form.ensures.is _ _ k.parts.3.2).1 in
-    fine (codes "mult") parts c.in_ok-places.places words k mult_says mult_offends _ _
-    (mult_parts k.parts.0 k.parts.3.0 k.parts.3.3.0) (rows.1, (refl, factors.1))
+    fine (codes "mult") parts c.in_ok-places.places words k mult_entry.says mult_entry.offends _ _
+    refl (rows.1, (refl, factors.1))
     (ap (λ x. Mult x c.maybe_form_of-one_line.result c.in_ok-factors.factors) rows.0
     ∙ ap (λ x. Mult (row_limit k.parts.0) x c.in_ok-factors.factors) one_line
     ∙ ap (λ x. Mult (row_limit k.parts.0) (is_one_line k.parts.3.0) x) factors.0) refl tt

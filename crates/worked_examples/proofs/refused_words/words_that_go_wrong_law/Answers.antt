@@ -1,9 +1,8 @@
 -- Proofs of the examples of `words_that_go_wrong_law`, each of which is computed.
 use Rattle.std.proofs.Common.{[], ◌∷◌, ◌++◌, refl, arith}
 use Rattle.std.specs.Prelude.{codes}
-use Rattle.sym_model.specs.Grammar.{line_entries, all_bases}
+use Rattle.sym_model.specs.Grammar.{all_entries, line_entries}
 use Rattle.sym_model.specs.BatchLine.{words_of_line}
-use Rattle.worked_examples.specs.Examples.{all_commands}
 use Rattle.worked_examples.proofs.ComputedExamples.{gone_wrong, can_be_all}
 use Rattle.worked_examples.proofs.ComputedExamples.{can_be_line}
 use Rattle.worked_examples.proofs.refused_words.words_that_go_wrong_law.Goals as goal
@@ -40,7 +39,7 @@ pub returns-clause-past_ascii : goal.returns-clause-past_ascii
 returns-clause-past_ascii c = gone_wrong (codes "expand m p[" ++ (195 ∷ 169 ∷ codes "]")) 2 2 refl
 
 pub returns-clause-empty_word : goal.returns-clause-empty_word
-returns-clause-empty_word c = syntax_sound all_commands can_be_all (omega arith) (codes "expand" ∷ codes "m" ∷ [] ∷ []) 2 0 refl
+returns-clause-empty_word c = syntax_sound all_entries can_be_all (omega arith) (codes "expand" ∷ codes "m" ∷ [] ∷ []) 2 0 refl
 
 pub returns-clause-no_expression : goal.returns-clause-no_expression
 returns-clause-no_expression c = gone_wrong (codes "expand m") 2 0 refl
@@ -55,13 +54,13 @@ pub returns-clause-more_than_batch : goal.returns-clause-more_than_batch
 returns-clause-more_than_batch c = gone_wrong (codes "batch x") 1 0 refl
 
 pub returns-clause-no_batch_in_a_batch : goal.returns-clause-no_batch_in_a_batch
-returns-clause-no_batch_in_a_batch c = syntax_sound (line_entries all_bases) can_be_line (omega arith) (words_of_line (codes "batch")) 0 0 refl
+returns-clause-no_batch_in_a_batch c = syntax_sound line_entries can_be_line (omega arith) (words_of_line (codes "batch")) 0 0 refl
 
 pub returns-clause-no_work_in_a_batch : goal.returns-clause-no_work_in_a_batch
-returns-clause-no_work_in_a_batch c = syntax_sound (line_entries all_bases) can_be_line (omega arith) (words_of_line (codes "work 1 0")) 0 0 refl
+returns-clause-no_work_in_a_batch c = syntax_sound line_entries can_be_line (omega arith) (words_of_line (codes "work 1 0")) 0 0 refl
 
 pub returns-clause-byte_255 : goal.returns-clause-byte_255
-returns-clause-byte_255 c = syntax_sound (line_entries all_bases) can_be_line (omega arith) (words_of_line (codes "mult 1 - " ++ (255 ∷ []))) 3 0 refl
+returns-clause-byte_255 c = syntax_sound line_entries can_be_line (omega arith) (words_of_line (codes "mult 1 - " ++ (255 ∷ []))) 3 0 refl
 
 pub returns-clause-form_before_rows : goal.returns-clause-form_before_rows
 returns-clause-form_before_rows c = gone_wrong (codes "mult -m -r 2 1 - 1") 2 0 refl
