@@ -1,19 +1,18 @@
 -- Words that are divided into the parts of a command (`AreCut`): the command that they spell, and its errors.
-use Rattle.std.proofs.Common.{◌≡◌, ℕ, true, ◌+◌, List, [], ◌∷◌, drop, length, refl, sym, ap, ◌∙◌, subst, Ok, rules}
+use Rattle.std.proofs.Common.{◌≡◌, ℕ, ◌+◌, List, [], ◌∷◌, drop, length, refl, ap, ◌∙◌, Ok, rules}
 use Rattle.std.proofs.lemmas.List.{append-nil}
 use Rattle.sym_model.specs.Command.{Command}
 use Rattle.sym_model.specs.CommandOffence.{Offence, first_offence}
 use Rattle.sym_model.specs.Form.{Written, May, Has, words_of}
 use Rattle.word_laws.specs.Words.{Words}
-use Rattle.calc_base.specs.declared.words.WordsFault.{WordsFault}
 use Rattle.calc_words.specs.Commands.{command_of, IsSound}
 use Rattle.calc_words.specs.declared.command.Command.{Command as Read}
-use Rattle.calc_words.specs.Reading.{IsRead, IsRefusal, IsFirst}
-use Rattle.calc_words.specs.Parts.{form_of_part, form_of, command_form, parts_offend, IsCut, written_of, AreCut, IsFirstOf, AreFine, are_bounded}
+use Rattle.calc_words.specs.Reading.{IsRead}
+use Rattle.calc_words.specs.Parts.{form_of_part, form_of, command_form, parts_offend, IsCut, written_of, AreCut, AreFine}
 use Rattle.calc_words.specs.declared.word_parts.Part.{Part}
 use Rattle.calc_words.proofs.CutWords.{dropped}
-use Rattle.calc_words.proofs.Commands.{first_refused, read_judged}
-use Rattle.calc_words.proofs.PartOffences.{parts_faulty, parts_fine}
+use Rattle.calc_words.proofs.Commands.{read_judged}
+use Rattle.calc_words.proofs.PartOffences.{parts_fine}
 
 -- the value that the words of a command denote, from the value x that the words of its parts denote
 abbrev pub said_of : (name : List ℕ) (ps : List Part) → Written (form_of ps) → Written (command_form name ps)
@@ -49,17 +48,6 @@ has_of name ps places words k = record {
       ∙ ap (λ us. name ∷ us) (cut_spelled ps 0 1 places words k.parts)
       ∙ said_spelled name ps (written_of ps 0 1 places words k.parts);
 }
-
--- let words be divided into the parts of a command. Suppose that the errors of the command are those of its parts, and that no part but the last is a
--- list of factors. Then a fault that reports the first error of the first part with an error is a correct refusal of the words.
-pub faulty : (name : List ℕ) (ps : List Part) (places : List ℕ) (words : Words) (k : AreCut name ps places words)
-    (says : Written (command_form name ps) → Command) (offends : Written (command_form name ps) → List Offence) (fault : WordsFault)
-    → offends (said_of name ps (written_of ps 0 1 places words k.parts)) ≡ parts_offend ps 1 (written_of ps 0 1 places words k.parts)
-    → are_bounded ps ≡ true → IsFirstOf ps 1 (written_of ps 0 1 places words k.parts) fault
-    → IsRefusal (record { name = name; form = command_form name ps; says = says; offends = offends } ∷ []) words fault
-faulty name ps places words k says offends fault o b h =
-    first_refused (record { name = name; form = command_form name ps; says = says; offends = offends }) words (has_of name ps places words k) fault
-    (subst (λ os. IsFirst (first_offence os) fault) (sym o) (parts_faulty ps 1 (written_of ps 0 1 places words k.parts) fault b h))
 
 -- let words be divided into the parts of a command. Suppose that the errors of the command are those of its parts, and that no part has an error.
 -- Then the command d that the parts spell, if it satisfies `IsSound`, is a correct result of reading the words.

@@ -20,3 +20,4 @@ pub mod CutCommands
 pub mod TakenFactors
 pub mod PartOffences
 pub mod PartValues
+pub mod ReadParts

@@ -12,3 +12,4 @@ pub mod FactorWords
 pub mod ReadProducts
 pub mod Cutting
 pub mod Parts
+pub mod ReadParts

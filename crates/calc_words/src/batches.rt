@@ -4,8 +4,8 @@ ghost use Rattle.sym_model.specs.Grammar.{batch_entry, work_entry};
 ghost use Rattle.calc_words.specs.Reading.{IsRead};
 
 use crate::command::Command;
-use crate::command_cuts::{cut, piece_at};
-use crate::part_values::{lines_of, seed_of};
+use crate::command_cuts::cut;
+use crate::command_words::CommandWords;
 use crate::word_parts::Part;
 use calc_base::WordsFault;
 
@@ -26,10 +26,9 @@ pub fn read_batch(words: &[String]) -> Result<Command, WordsFault>
 pub fn read_work(words: &[String]) -> Result<Command, WordsFault>
     ensures { IsRead (work_entry ∷ []) (map string_bytes words.now) result }
 {
-    let places = cut(words, "work", &[Part::Lines, Part::Seed])?;
-    let first = piece_at(words, &places, 0);
-    let lines = lines_of(first.at, first.words)?;
-    let second = piece_at(words, &places, 1);
-    let seed = seed_of(second.at, second.words)?;
+    let command = CommandWords("work", &[Part::Lines, Part::Seed], words);
+    let places = command.places()?;
+    let lines = command.lines(&places, 0)?;
+    let seed = command.seed(&places, 1)?;
     Ok(Command::Work { lines, seed })
 }

@@ -18,6 +18,7 @@
 pub mod batches;
 mod command;
 mod command_cuts;
+mod command_words;
 mod factors;
 mod joined;
 mod letters;

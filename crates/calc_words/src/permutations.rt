@@ -6,8 +6,7 @@ ghost use Rattle.sym_model.specs.Grammar.{dschubmult_entry, stanley_entry, rsk_e
 ghost use Rattle.calc_words.specs.Reading.{IsRead};
 
 use crate::command::Command;
-use crate::command_cuts::{cut, piece_at};
-use crate::part_values::{doubled_of, letters_of, rows_of, word_of};
+use crate::command_words::CommandWords;
 use crate::word_parts::Part;
 use calc_base::WordsFault;
 use std::alloc::Global;
@@ -21,9 +20,9 @@ use std::alloc::Global;
 pub fn read_schubert(alloc: Global, words: &[String]) -> Result<Command, WordsFault>
     ensures { IsRead (schubert_entry ∷ []) (map string_bytes words.now) result }
 {
-    let places = cut(words, "schubert", &[Part::Letters])?;
-    let list = piece_at(words, &places, 0);
-    let perm = letters_of(alloc, list.at, list.words)?;
+    let command = CommandWords("schubert", &[Part::Letters], words);
+    let places = command.places()?;
+    let perm = command.letters(alloc, &places, 0)?;
     Ok(Command::Schubert { perm })
 }
 
@@ -36,9 +35,9 @@ pub fn read_schubert(alloc: Global, words: &[String]) -> Result<Command, WordsFa
 pub fn read_growth(alloc: Global, words: &[String]) -> Result<Command, WordsFault>
     ensures { IsRead (growth_entry ∷ []) (map string_bytes words.now) result }
 {
-    let places = cut(words, "growth", &[Part::Letters])?;
-    let list = piece_at(words, &places, 0);
-    let perm = letters_of(alloc, list.at, list.words)?;
+    let command = CommandWords("growth", &[Part::Letters], words);
+    let places = command.places()?;
+    let perm = command.letters(alloc, &places, 0)?;
     Ok(Command::Growth { perm })
 }
 
@@ -53,11 +52,10 @@ pub fn read_schubmult(alloc: Global, words: &[String]) -> Result<Command, WordsF
     ensures { IsRead (schubmult_entry ∷ []) (map string_bytes words.now) result }
 {
     let parts = &[Part::Letters, Part::Minus, Part::Letters];
-    let places = cut(words, "schubmult", parts)?;
-    let first = piece_at(words, &places, 0);
-    let left = letters_of(alloc, first.at, first.words)?;
-    let second = piece_at(words, &places, 2);
-    let right = letters_of(alloc, second.at, second.words)?;
+    let command = CommandWords("schubmult", parts, words);
+    let places = command.places()?;
+    let left = command.letters(alloc, &places, 0)?;
+    let right = command.letters(alloc, &places, 2)?;
     Ok(Command::Schubmult { left, right })
 }
 
@@ -72,11 +70,10 @@ pub fn read_dschubmult(alloc: Global, words: &[String]) -> Result<Command, Words
     ensures { IsRead (dschubmult_entry ∷ []) (map string_bytes words.now) result }
 {
     let parts = &[Part::Doubled, Part::Minus, Part::Doubled];
-    let places = cut(words, "dschubmult", parts)?;
-    let first = piece_at(words, &places, 0);
-    let left = doubled_of(alloc, first.at, first.words)?;
-    let second = piece_at(words, &places, 2);
-    let right = doubled_of(alloc, second.at, second.words)?;
+    let command = CommandWords("dschubmult", parts, words);
+    let places = command.places()?;
+    let left = command.doubled(alloc, &places, 0)?;
+    let right = command.doubled(alloc, &places, 2)?;
     Ok(Command::Dschubmult { left, right })
 }
 
@@ -90,11 +87,10 @@ pub fn read_dschubmult(alloc: Global, words: &[String]) -> Result<Command, Words
 pub fn read_stanley(alloc: Global, words: &[String]) -> Result<Command, WordsFault>
     ensures { IsRead (stanley_entry ∷ []) (map string_bytes words.now) result }
 {
-    let places = cut(words, "stanley", &[Part::Rows, Part::Letters])?;
-    let limit = piece_at(words, &places, 0);
-    let rows = rows_of(limit.at, limit.words)?;
-    let list = piece_at(words, &places, 1);
-    let perm = letters_of(alloc, list.at, list.words)?;
+    let command = CommandWords("stanley", &[Part::Rows, Part::Letters], words);
+    let places = command.places()?;
+    let rows = command.rows(&places, 0)?;
+    let perm = command.letters(alloc, &places, 1)?;
     Ok(Command::Stanley { rows, perm })
 }
 
@@ -106,8 +102,8 @@ pub fn read_stanley(alloc: Global, words: &[String]) -> Result<Command, WordsFau
 pub fn read_rsk(alloc: Global, words: &[String]) -> Result<Command, WordsFault>
     ensures { IsRead (rsk_entry ∷ []) (map string_bytes words.now) result }
 {
-    let places = cut(words, "rsk", &[Part::Word])?;
-    let list = piece_at(words, &places, 0);
-    let letters = word_of(alloc, list.at, list.words)?;
+    let command = CommandWords("rsk", &[Part::Word], words);
+    let places = command.places()?;
+    let letters = command.word(alloc, &places, 0)?;
     Ok(Command::Rsk { letters })
 }

@@ -4,8 +4,7 @@ ghost use Rattle.sym_model.specs.Grammar.{mult_entry, skew_entry, coef_entry, co
 ghost use Rattle.calc_words.specs.Reading.{IsRead};
 
 use crate::command::Command;
-use crate::command_cuts::{cut, piece_at};
-use crate::part_values::{factors_of, maybe_form_of, maybe_rows_of, shape_of};
+use crate::command_words::CommandWords;
 use crate::word_parts::Part;
 use calc_base::WordsFault;
 use std::alloc::Global;
@@ -22,13 +21,11 @@ pub fn read_mult(alloc: Global, words: &[String]) -> Result<Command, WordsFault>
     ensures { IsRead (mult_entry ∷ []) (map string_bytes words.now) result }
 {
     let parts = &[Part::MaybeRows, Part::MaybeForm, Part::Factors];
-    let places = cut(words, "mult", parts)?;
-    let limit = piece_at(words, &places, 0);
-    let rows = maybe_rows_of(limit.at, limit.words)?;
-    let form = piece_at(words, &places, 1);
-    let one_line = maybe_form_of(form.words);
-    let list = piece_at(words, &places, 2);
-    let factors = factors_of(alloc, list.at, list.words)?;
+    let command = CommandWords("mult", parts, words);
+    let places = command.places()?;
+    let rows = command.maybe_rows(&places, 0)?;
+    let one_line = command.one_line(&places, 1);
+    let factors = command.factors(alloc, &places, 2)?;
     Ok(Command::Mult {
         rows,
         one_line,
@@ -53,15 +50,12 @@ pub fn read_skew(alloc: Global, words: &[String]) -> Result<Command, WordsFault>
         Part::Slash,
         Part::Shape,
     ];
-    let places = cut(words, "skew", parts)?;
-    let limit = piece_at(words, &places, 0);
-    let rows = maybe_rows_of(limit.at, limit.words)?;
-    let form = piece_at(words, &places, 1);
-    let one_line = maybe_form_of(form.words);
-    let first = piece_at(words, &places, 2);
-    let outer = shape_of(alloc, first.at, first.words)?;
-    let second = piece_at(words, &places, 4);
-    let inner = shape_of(alloc, second.at, second.words)?;
+    let command = CommandWords("skew", parts, words);
+    let places = command.places()?;
+    let rows = command.maybe_rows(&places, 0)?;
+    let one_line = command.one_line(&places, 1);
+    let outer = command.shape(alloc, &places, 2)?;
+    let inner = command.shape(alloc, &places, 4)?;
     Ok(Command::Skew {
         rows,
         one_line,
@@ -86,13 +80,11 @@ pub fn read_coef(alloc: Global, words: &[String]) -> Result<Command, WordsFault>
         Part::Minus,
         Part::Shape,
     ];
-    let places = cut(words, "coef", parts)?;
-    let first = piece_at(words, &places, 0);
-    let outer = shape_of(alloc, first.at, first.words)?;
-    let second = piece_at(words, &places, 2);
-    let left = shape_of(alloc, second.at, second.words)?;
-    let third = piece_at(words, &places, 4);
-    let right = shape_of(alloc, third.at, third.words)?;
+    let command = CommandWords("coef", parts, words);
+    let places = command.places()?;
+    let outer = command.shape(alloc, &places, 0)?;
+    let left = command.shape(alloc, &places, 2)?;
+    let right = command.shape(alloc, &places, 4)?;
     Ok(Command::Coef { outer, left, right })
 }
 
@@ -105,8 +97,8 @@ pub fn read_coef(alloc: Global, words: &[String]) -> Result<Command, WordsFault>
 pub fn read_coprod(alloc: Global, words: &[String]) -> Result<Command, WordsFault>
     ensures { IsRead (coprod_entry ∷ []) (map string_bytes words.now) result }
 {
-    let places = cut(words, "coprod", &[Part::Shape])?;
-    let list = piece_at(words, &places, 0);
-    let shape = shape_of(alloc, list.at, list.words)?;
+    let command = CommandWords("coprod", &[Part::Shape], words);
+    let places = command.places()?;
+    let shape = command.shape(alloc, &places, 0)?;
     Ok(Command::Coprod { shape })
 }

@@ -4,8 +4,7 @@ ghost use Rattle.sym_model.specs.Grammar.{quantum_entry, fusion_entry};
 ghost use Rattle.calc_words.specs.Reading.{IsRead};
 
 use crate::command::Command;
-use crate::command_cuts::{cut, piece_at};
-use crate::part_values::{bound_of, factors_of};
+use crate::command_words::CommandWords;
 use crate::word_parts::Part;
 use calc_base::WordsFault;
 use std::alloc::Global;
@@ -21,14 +20,11 @@ use std::alloc::Global;
 pub fn read_quantum(alloc: Global, words: &[String]) -> Result<Command, WordsFault>
     ensures { IsRead (quantum_entry ∷ []) (map string_bytes words.now) result }
 {
-    let parts = &[Part::Bound, Part::Bound, Part::Factors];
-    let places = cut(words, "quantum", parts)?;
-    let first = piece_at(words, &places, 0);
-    let rows = bound_of(first.at, first.words)?;
-    let second = piece_at(words, &places, 1);
-    let cols = bound_of(second.at, second.words)?;
-    let list = piece_at(words, &places, 2);
-    let factors = factors_of(alloc, list.at, list.words)?;
+    let command = CommandWords("quantum", &[Part::Bound, Part::Bound, Part::Factors], words);
+    let places = command.places()?;
+    let rows = command.bound(&places, 0)?;
+    let cols = command.bound(&places, 1)?;
+    let factors = command.factors(alloc, &places, 2)?;
     Ok(Command::Quantum {
         rows,
         cols,
@@ -47,14 +43,11 @@ pub fn read_quantum(alloc: Global, words: &[String]) -> Result<Command, WordsFau
 pub fn read_fusion(alloc: Global, words: &[String]) -> Result<Command, WordsFault>
     ensures { IsRead (fusion_entry ∷ []) (map string_bytes words.now) result }
 {
-    let parts = &[Part::Bound, Part::Bound, Part::Factors];
-    let places = cut(words, "fusion", parts)?;
-    let first = piece_at(words, &places, 0);
-    let rows = bound_of(first.at, first.words)?;
-    let second = piece_at(words, &places, 1);
-    let level = bound_of(second.at, second.words)?;
-    let list = piece_at(words, &places, 2);
-    let factors = factors_of(alloc, list.at, list.words)?;
+    let command = CommandWords("fusion", &[Part::Bound, Part::Bound, Part::Factors], words);
+    let places = command.places()?;
+    let rows = command.bound(&places, 0)?;
+    let level = command.bound(&places, 1)?;
+    let factors = command.factors(alloc, &places, 2)?;
     Ok(Command::Fusion {
         rows,
         level,

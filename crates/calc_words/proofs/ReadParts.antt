@@ -1,0 +1,146 @@
+-- The parts of the words of a command are read one after another. The value of each part is what its words denote, and the first part with an error
+-- has the first error of the command.
+use Rattle.std.proofs.Common.{◌≡◌, ℕ, zero, suc, ◌+◌, ◌<◌, List, [], ◌∷◌, map, length, refl, sym, ap, ap₂, ◌∙◌, subst, arith, None, Result, Ok, Err, inl, inr}
+use Rattle.std.specs.Prelude.{slice_index_or, IsErrAnd}
+use Rattle.std.proofs.lemmas.Bool.{ltb-true}
+use Rattle.sym_model.specs.Command.{Command}
+use Rattle.sym_model.specs.CommandOffence.{first_offence}
+use Rattle.sym_model.specs.Entry.{Entry, SpellsWithoutOffence}
+use Rattle.sym_model.specs.Form.{Written, May, Has, sequence, words_of}
+use Rattle.sym_model.specs.Grammar.{entry}
+use Rattle.sym_model.specs.WordForms.{the}
+use Rattle.word_laws.specs.Words.{Words}
+use Rattle.calc_base.specs.declared.words.WordsFault.{WordsFault}
+use Rattle.calc_words.specs.declared.command.Command.{Command as Read}
+use Rattle.calc_words.specs.Reading.{IsRead, IsRefusal, IsFirst, IsJudged}
+use Rattle.calc_words.specs.Parts.{part_of, form_of_part, form_of, part_offends, IsPiece, IsCut, written_of, AreCut, IsFirstOf, AreFine}
+use Rattle.calc_words.specs.ReadParts.{FineTo, marks, after, AreFineTo, IsNext, IsPartRead}
+use Rattle.calc_words.specs.declared.word_parts.Part.{Part}
+use Rattle.calc_words.specs.declared.word_parts.Part.TheVariants.{Minus, Slash}
+use Rattle.calc_words.proofs.Commands.{first_refused}
+use Rattle.calc_words.proofs.CutCommands.{may_be_cut, cut_spelled}
+use Rattle.calc_words.proofs.PartOffences.{parts_faulty, parts_fine}
+
+record IsPartAt (p : Part) (ps : List Part) (i j k : ℕ) (places : List ℕ) (words : Words) (h : IsCut ps j k places words) : Type 0 where
+  at : ℕ
+  written : Written (form_of_part p)
+  allowed : May (form_of_part p) written
+  piece : (n : ℕ) → n ≡ j + i → IsPiece places words n at (words_of (form_of_part p) written)
+  goes : first_offence (part_offends p at written) ≡ None → FineTo i ps k (written_of ps j k places words h)
+      → FineTo (suc i) ps k (written_of ps j k places words h)
+  faulty : (fault : WordsFault) → IsFirst (first_offence (part_offends p at written)) fault → FineTo i ps k (written_of ps j k places words h)
+      → IsFirstOf ps k (written_of ps j k places words h) fault
+
+part_at : (ps : List Part) (i j k : ℕ) (places : List ℕ) (words : Words) (h : IsCut ps j k places words) → i < length ps
+    → IsPartAt (slice_index_or ps i Minus) ps i j k places words h
+part_at [] i j k places words h l = absurd (omega (arith, l))
+part_at (p ∷ []) zero j k places words h l = record {
+  at = k;
+  written = h.0;
+  allowed = h.1;
+  piece = λ n e. subst (λ m. IsPiece places words m k (words_of (form_of_part p) h.0)) (omega (arith, e)) h.2;
+  goes = λ n f. n;
+  faulty = λ fault a f. a;
+}
+part_at (p ∷ []) (suc i) j k places words h l = absurd (omega (arith, l))
+part_at (p ∷ q ∷ ps) zero j k places words h l = record {
+  at = k;
+  written = h.0;
+  allowed = h.1;
+  piece = λ n e. subst (λ m. IsPiece places words m k (words_of (form_of_part p) h.0)) (omega (arith, e)) h.2;
+  goes = λ n f. (n, tt);
+  faulty = λ fault a f. inl a;
+}
+part_at (p ∷ q ∷ ps) (suc i) j k places words h l =
+    let s = part_at (q ∷ ps) i (j + 1) (k + length (words_of (form_of_part p) h.0)) places words h.3 (omega (arith, l)) in
+    record {
+      at = s.at;
+      written = s.written;
+      allowed = s.allowed;
+      piece = λ n e. s.piece n (omega (arith, e));
+      goes = λ n f. (f.0, s.goes n f.1);
+      faulty = λ fault a f. inr (f.0, s.faulty fault a f.1);
+    }
+
+marks_fine : (ps : List Part) (k : ℕ) (x : Written (form_of ps)) → FineTo (marks ps) ps k x
+marks_fine [] k x = tt
+marks_fine (Minus ∷ []) k x = refl
+marks_fine (Minus ∷ q ∷ ps) k x = (refl, marks_fine (q ∷ ps) _ x.1)
+marks_fine (Slash ∷ []) k x = refl
+marks_fine (Slash ∷ q ∷ ps) k x = (refl, marks_fine (q ∷ ps) _ x.1)
+marks_fine (p ∷ ps) k x = tt
+
+fine_after : (ps : List Part) (i k : ℕ) (x : Written (form_of ps)) → FineTo (suc i) ps k x → FineTo (after ps i) ps k x
+fine_after [] i k x f = tt
+fine_after (p ∷ []) zero k x f = f
+fine_after (p ∷ []) (suc i) k x f = f
+fine_after (p ∷ q ∷ ps) zero k x f = (f.0, marks_fine (q ∷ ps) _ x.1)
+fine_after (p ∷ q ∷ ps) (suc i) k x f = (f.0, fine_after (q ∷ ps) i _ x.1 f.1)
+
+all_fine : (ps : List Part) (k : ℕ) (x : Written (form_of ps)) → FineTo (length ps) ps k x → AreFine ps k x
+all_fine [] k x f = tt
+all_fine (p ∷ []) k x f = f
+all_fine (p ∷ q ∷ ps) k x f = (f.0, all_fine (q ∷ ps) _ x.1 f.1)
+
+abbrev has_parts : (name : List ℕ) (ps : List Part) (places : List ℕ) (words : Words) (h : AreCut name ps places words) → Has (sequence (the name) (form_of ps)) words
+has_parts name ps places words h = record {
+  written = (tt, written_of ps 0 1 places words h.parts);
+  allowed = (tt, may_be_cut ps 0 1 places words h.parts);
+  spelled = h.named ∙ ap (λ us. name ∷ us) (cut_spelled ps 0 1 places words h.parts);
+}
+
+found : (p : Part) (name : List ℕ) (ps : List Part) (places : List ℕ) (words : Words) (i : ℕ) → IsNext p name ps places words i
+    → (h : AreCut name ps places words) → IsPartAt p ps i 0 1 places words h.parts
+found p name ps places words i next h =
+    subst (λ q. IsPartAt q ps i 0 1 places words h.parts) next.is (part_at ps i 0 1 places words h.parts (ltb-true i (length ps) next.within))
+
+-- let part i be the next part. If a result is correct for what its words denote and for its first error (`IsJudged`), it is a correct result of reading
+-- the part.
+pub part_read : (p : Part) {V : Type 0} (said : Written (form_of_part p) → V) (name : List ℕ) (ps : List Part) (places : List ℕ) (words : Words) (i : ℕ)
+    → IsNext p name ps places words i → (r : Result V WordsFault)
+    → ((k : ℕ) (x : Written (form_of_part p)) → May (form_of_part p) x → IsPiece places words i k (words_of (form_of_part p) x)
+    → IsJudged (λ v. v ≡ said x) (first_offence (part_offends p k x)) r)
+    → IsPartRead p said name ps places words i r
+part_read p said name ps places words i next (Ok v) judged = record {
+  fine = record {
+    fine = λ h.
+        let part = found p name ps places words i next h in
+        fine_after ps i 1 (written_of ps 0 1 places words h.parts)
+        (part.goes (judged part.at part.written part.allowed (part.piece i (omega arith))).1 (next.fine.fine h));
+  };
+  value = λ k x m q. (judged k x m q).0;
+}
+part_read p said name ps places words i next (Err fault) judged =
+    λ says.
+    let h = next.cut in
+    let part = found p name ps places words i next h in
+    first_refused (entry name (map part_of ps) says) words (has_parts name ps places words h) fault
+    (parts_faulty ps 1 (written_of ps 0 1 places words h.parts) fault next.bounded
+    (part.faulty fault (judged part.at part.written part.allowed (part.piece i (omega arith))) (next.fine.fine h)))
+
+-- if the words are divided into the parts of a command and no part has an error, the words spell the command that the values of the parts spell
+pub all_read : {name : List ℕ} {ps : List Part} {places : List ℕ} {words : Words} (h : AreCut name ps places words)
+    → AreFineTo name ps places words (length ps) → (says : Written (form_of ps) → Command) → (said : Command)
+    → said ≡ says (written_of ps 0 1 places words h.parts) → SpellsWithoutOffence (entry name (map part_of ps) says ∷ []) words said
+all_read {name} {ps} {places} {words} h f says said is =
+    inl (record {
+      has = has_parts name ps places words h;
+      says_it = is;
+      no_offence =
+          parts_fine ps 1 (written_of ps 0 1 places words h.parts) (all_fine ps 1 (written_of ps 0 1 places words h.parts) (f.fine h));
+    })
+
+-- a refusal that a reader returns unchanged is a correct result
+pub refused : (r : Result Read WordsFault) (fault : WordsFault) (entries : List Entry) (words : Words) → IsErrAnd r (λ e. e ≡ fault)
+    → IsRefusal entries words fault → IsRead entries words r
+refused (Ok c) fault entries words h k = absurd h
+refused (Err e) fault entries words h k = subst (IsRefusal entries words) (sym h) k
+
+-- ---- equal arguments of a command with three or four parts
+
+pub ap₃ : {A B C D : Type 0} (f : A → B → C → D) {a k : A} {b l : B} {c m : C} → a ≡ k → b ≡ l → c ≡ m → f a b c ≡ f k l m
+ap₃ f {a} {k} {b} {l} {c} {m} e g h = ap (λ x. f x b c) e ∙ ap₂ (f k) g h
+
+pub ap₄ : {A B C D E : Type 0} (f : A → B → C → D → E) {a k : A} {b l : B} {c m : C} {d n : D} → a ≡ k → b ≡ l → c ≡ m → d ≡ n
+    → f a b c d ≡ f k l m n
+ap₄ f {a} {k} {b} {l} {c} {m} {d} {n} e g h i = ap (λ x. f x b c d) e ∙ ap₃ (f k) g h i
