@@ -16,7 +16,7 @@ use Rattle.calc_words.proofs.ReadingFacts.{accepts, refuses, goes_wrong}
 use Rattle.sym_model.specs.Grammar.{all_entries, line_entries}
 use Rattle.calc_language.specs.Lines.{IsLineRead, KeepsItsLimits, AcceptsInLine}
 use Rattle.calc_words.specs.declared.command.Command.{Command}
-use Rattle.calc_language.proofs.Entries.{kept_by_all}
+use Rattle.calc_words.proofs.WrittenCommands.{words_keep}
 
 pub spoken_line : (line : List ℕ) (kept : Words) → nat_lt most_bytes (length line) ≡ false → kept ≡ map seen (words_of_line (without_return line))
     → is_passed_over kept ≡ false → batch_line line ≡ spoken (words_of_line (without_return line))
@@ -53,7 +53,7 @@ within line (Err fault) h = tt
 within line (Ok None) h = tt
 within too_long (Ok (Some command)) h = absurd h
 within passed_over (Ok (Some command)) h = absurd h
-within (spoken words) (Ok (Some command)) h = search (rules, kept_by_all, line_of_all)
+within (spoken words) (Ok (Some command)) h = search (rules, words_keep, line_of_all)
 
 spoken_accepts : (words : Words) (r : Result (Option Command) WordsFault) → IsLineRead (spoken words) r → (c : PlainCommand)
     → SpellsWithoutOffence line_entries words c → AcceptsInLine c r
