@@ -123,7 +123,7 @@ def metadata(licences):
 def contents(program, library, tag):
     """The files of the wheel, by their names in it."""
     folder = f"{HERE}/yorqanish"
-    files = {f"yorqanish/{name}": content_of(f"{folder}/{name}") for name in sorted(os.listdir(folder)) if name.endswith((".py", ".typed"))}
+    files = {f"yorqanish/{name}": content_of(f"{folder}/{name}") for name in sorted(os.listdir(folder)) if name.endswith((".py", ".json", ".typed"))}
     files["yorqanish/VERSION"] = f"{version()}\n".encode()
     if os.path.exists(f"{TOP}/check/table"):
         names = ("table", "claims.py", "points.py", "tableaux.py")
@@ -204,7 +204,7 @@ def build_sdist(sdist_directory, config_settings=None):
     """The source archive: this folder, with the version and the licence, and the binaries if they are there."""
     name = f"yorqanish-{version()}"
     files = {it: f"{HERE}/{it}" for it in ("README.md", "pyproject.toml", "make_wheel.py")}
-    names = (it for it in sorted(os.listdir(f"{HERE}/yorqanish")) if it.endswith((".py", ".typed")))
+    names = (it for it in sorted(os.listdir(f"{HERE}/yorqanish")) if it.endswith((".py", ".json", ".typed")))
     files.update({f"yorqanish/{it}": f"{HERE}/yorqanish/{it}" for it in names})
     files.update({"yorqanish/VERSION": f"{TOP}/VERSION", "LICENSE": f"{TOP}/LICENSE"})
     with tarfile.open(os.path.join(sdist_directory, f"{name}.tar.gz"), "w:gz", format=tarfile.PAX_FORMAT) as archive:

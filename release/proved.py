@@ -199,7 +199,8 @@ def versions():
 def scripts():
     """A sum of what else goes into the files of prebuilt/: the way in which they are linked, and the texts of the page."""
     page = sorted(set(os.listdir(f"{TOP}/web")) - {"browse.py", "cases.mjs", "readings.mjs", "__pycache__"})
-    others = ("release/proved.py", "library/exports.map", "library/version.c", "calc.1", "docs/DEFINITIONS.md", "VERSION", "CITATION.cff")
+    texts = ("calc.1", "python/yorqanish/commands.json", "docs/DEFINITIONS.md", "VERSION", "CITATION.cff")
+    others = ("release/proved.py", "library/exports.map", "library/version.c", *texts)
     return sum_of(*(f"{TOP}/web/{name}" for name in page), *(f"{TOP}/{name}" for name in others))
 
 

@@ -320,8 +320,8 @@ def by_latex(copies):
 
 def examples(build, printed):
     """Each command has a text on what is proved, and its example, which is written by hand, is the equation of its line."""
-    theorems = json.loads(build.text_of("theorems.json"))
-    missing = {it.name for it in build.command_help.COMMANDS} - set(theorems) - {"batch", "work"}
+    theorems = build.command_help.theorems()
+    missing = set(build.command_help.manual.COMMANDS) - set(theorems) - {"batch", "work"}
     lines = [it["example"][0] for it in theorems.values() if "example" in it]
     for it, copies in zip((it for it in theorems.values() if "example" in it), copies_of(build, lines, printed)):
         if copies["equation"] != it["example"][1]:

@@ -1,26 +1,9 @@
 """The tables of tests/page: the lines, and the results that the page has to show for them."""
 
-# Each command, and the longest sum of a word.
-LINES = """mult 2 1 - 2 1
-mult -m 2 1 - 2 1
-skew 3 2 1 / 2 1
-coef 3 2 1 - 2 1 - 2 1
-coprod 2 1
-tab 3 2 1 / 2 1
-quantum 2 2 1 - 2 1
-fusion 3 2 2 1 - 2 1
-schubert 2 1 4 3
-schubmult 1 3 2 - 1 3 2
-dschubmult 2 1 - 2 1
-stanley -r 2 2 1 4 3
-expand p s[2,1]
-plethysm s h[2] h[2]
-rsk 3 1 2
-unrsk 1 2 / 3 - 1 3 / 2
-rect 2 2 / 1 - 1 / 1 2
-growth 3 1 2
-work 2 0
-mult 1 2 - 1""".splitlines() + ["expand m " + "+".join(["1"] * 2048)]
+from manual import COMMANDS
+
+# The examples of each command, a refused line, and the longest sum of a word.
+LINES = [line for it in COMMANDS.values() for line in it["examples"]] + ["mult -m 2 1 - 2 1", "mult 1 2 - 1", "expand m " + "+".join(["1"] * 2048)]
 
 # The lines that are refused: the line, the sentence, and the part that is marked.
 REFUSALS = [
@@ -45,6 +28,7 @@ REFUSALS = [
     ("quantum 65 2 1 - 1", "65 is not a number of rows: it is from 1 to 64.", "65"),
     ("rect 2 2 / 1 - 1 / 3 2", "2 is smaller than its left neighbour 3. Rows increase weakly.", "2"),
     ("rect 2 2 / 1 - 1 / 1", "The tableau ends too early. Its shape has rows of 1 and 2.", ""),
+    ("unrsk 1 2 - 2 1", "1 is not greater than its left neighbour 2. Rows of a standard tableau increase.", "1"),
     ("tab 3 2 1 / 2 1 -from 2 / 1 / 1", "What follows -from is not a lattice tableau of the shape 3 2 1 / 2 1.", "-from"),
     (f"expand m {2**127}", f"{2**127} is greater than 2^127 - 1, the greatest number that can be typed.", str(2**127)),
     (f"expand m {2**127 - 1}+1", "The answer is not computed: the bound for the numbers on the way is greater than 2^127 - 1.", None),

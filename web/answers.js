@@ -12,14 +12,14 @@ function numbers(label) {
  * null if it is none of these.
  */
 function answerOf(line, text) {
-  const words = wordsOf(line).map((it) => it.text), lines = text.trimEnd().split("\n"), name = words[0];
+  const words = textsOfWords(line), lines = text.trimEnd().split("\n"), { answer } = GRAMMAR.get(words[0]) || {};
   const tableaux = (texts, inner, names) => ({ kind: "tableaux", tableaux: texts.map(rowsOf), inner, names });
-  if (name === "rsk") return tableaux(lines.map((it) => it.slice(2)), [], ["P", "Q"]);
-  if (name === "rect") return tableaux(lines, []);
-  if (name === "tab") return tableaux(text === "0\n" ? [] : lines, innerOf(words));
-  if (name === "growth") return { kind: "grid", rows: lines.map((it) => it.split(" ").map(numbers)) };
-  if (name === "unrsk") return { kind: "word", letters: lines[0].split(" ").filter(Boolean) };
-  if (name === "coef") return /^\d+\n$/.test(text) ? { kind: "number", value: lines[0] } : null;
+  if (answer === "pair") return tableaux(lines.map((it) => it.slice(2)), [], ["P", "Q"]);
+  if (answer === "tableau") return tableaux(lines, []);
+  if (answer === "tableaux") return tableaux(text === "0\n" ? [] : lines, innerOf(words));
+  if (answer === "grid") return { kind: "grid", rows: lines.map((it) => it.split(" ").map(numbers)) };
+  if (answer === "word") return { kind: "word", letters: lines[0].split(" ").filter(Boolean) };
+  if (answer === "number") return /^\d+\n$/.test(text) ? { kind: "number", value: lines[0] } : null;
   const block = termsOf(text), terms = block || oneLineTermsOf(text);
   return terms && { kind: "terms", letter: letterOf(words), terms, isOneLine: !block };
 }
@@ -40,8 +40,8 @@ function rowsOf(text) {
  * SS for permutations with a monomial in y, q for powers of q.
  */
 function letterOf(words) {
-  const { letter } = GRAMMAR.get(words[0]) || { letter: "s" };
-  return letter === "b" ? words.slice(1).find((it) => BASIS.test(it)) : letter || "s";
+  const { answer } = GRAMMAR.get(words[0]) || {};
+  return answer === "b" ? words.slice(1).find((it) => BASIS.test(it)) : answer || "s";
 }
 
 /** The terms of a block: coefficients, labels, powers of q; null if the text is no such block. */

@@ -46,61 +46,43 @@ function namesOfCoefficients(basis, text) {
   return family === "p" && basis === "s" ? `: the characters χ^{λ}${index}` : "";
 }
 
-/** A word, its letters with commas. */
-function shownWord(words) {
-  return words.length === 0 ? "the empty word" : `the word ${inRound(words.map(plainNumber), ", ")}`;
-}
-
-/** A tableau by its rows. */
-function shownTableau(words) {
-  return words.map((it) => (/\d/.test(it) ? plainNumber(it) : it)).join(" ");
-}
-
-/** What each command computes, from its arguments: those of the role asked for, in turn, each as its words. */
-const COMPUTED = {
-  mult: (of) => of("partition").map(schur).join(" · ") + inVariables(of),
-  skew: (of) => `s_{${of("partition").map(shown).join("/")}}${inVariables(of)}`,
-  coef: (of) => {
-    const [outer, ...factors] = of("partition").map(schur);
-    return `the coefficient of ${outer} in ${factors.join(" · ")}`;
-  },
-  coprod: (of) => `${schur(of("partition")[0])}(x, y), in products s_{μ}(x) s_{ν}(y)`,
-  quantum: (of) => {
-    const [rows, columns] = [of("rows"), of("columns")].map(([it]) => Number(it[0]));
-    return `${of("partition").map((it) => `σ_{${shown(it)}}`).join(" * ")} in QH*(Gr(${rows},${rows + columns}))`;
-  },
-  fusion: (of) => {
-    const [rows, level] = [of("rows"), of("level")].map(([it]) => Number(it[0]));
-    return `${of("partition").map(schur).join(" ⊗ ")} for su(${rows}) at level ${level}`;
-  },
-  schubert: (of) => `the Schubert polynomial ${schubert(of("permutation")[0])}`,
-  schubmult: (of) => `the product of the Schubert polynomials ${of("permutation").map(schubert).join(" and ")}`,
-  dschubmult: (of) => of("permutation").map((it) => `${schubert(it)}(x; y)`).join(" · "),
-  stanley: (of) => `the Stanley symmetric function F_{${permutationIndex(of("permutation")[0])}}${inVariables(of)}`,
-  expand: (of) => {
-    const [[basis], [text]] = [of("basis")[0], of("expression")[0]];
-    return `${shownExpression(text)} in the basis ${basis}`;
-  },
-  plethysm: (of) => {
-    const [[basis], [outer], [inner]] = ["basis", "outer", "inner"].map((role) => of(role)[0]);
-    const isAtom = /^[mehps]\[[\d,]*\]$/.test(outer);
-    return `${isAtom ? shownExpression(outer) : `(${shownExpression(outer)})`}[${shownExpression(inner)}] in the basis ${basis}`;
-  },
-  tab: (of) => {
-    const after = of("tableau")[0];
-    const from = after ? `, after ${shownTableau(after)}` : "";
-    return `the Littlewood–Richardson tableaux of shape ${of("partition").map(shown).join("/")}${from}`;
-  },
-  rsk: (of) => `P and Q of ${shownWord(of("letters")[0])}`,
-  unrsk: (of) => `the word with P = ${shownTableau(of("tableau")[0])} and Q = ${shownTableau(of("recording")[0])}`,
-  rect: (of) => `the rectification of ${shownTableau(of("filling")[0])} of shape ${of("partition").map(shown).join("/")}`,
-  growth: (of) => `the growth diagram of the permutation ${of("permutation")[0].map(plainNumber).join(" ")}`,
-  batch: () => "the answers to the lines of the input, of which there are none here",
-  work: (of) => {
-    const [[[lines]], [[seed]]] = [of("lines"), of("seed")];
-    return `totals of ${plainNumber(lines)} generated command${Number(lines) === 1 ? "" : "s"}, from the seed ${plainNumber(seed)}`;
-  },
+/** An argument, by the words of the table of commands for what it looks like. */
+const SHOWN = {
+  shown,
+  schur,
+  schubert,
+  class: (words) => `σ_{${shown(words)}}`,
+  plain: ([word]) => plainNumber(word),
+  index: permutationIndex,
+  letters: (words) => words.map(plainNumber).join(" "),
+  word: (words) => (words.length === 0 ? "the empty word" : `the word ${inRound(words.map(plainNumber), ", ")}`),
+  tableau: (words) => words.map((it) => (/\d/.test(it) ? plainNumber(it) : it)).join(" "),
+  after: (words) => `, after ${SHOWN.tableau(words)}`,
+  expression: ([text]) => shownExpression(text),
+  factor: ([text]) => (/^[mehps]\[[\d,]*\]$/.test(text) ? shownExpression(text) : `(${shownExpression(text)})`),
+  variables: ([number]) => ` in ${countOfThings(number, "variable", "variables")}`,
+  commands: ([number]) => `${plainNumber(number)} generated command${Number(number) === 1 ? "" : "s"}`,
 };
+
+/** A text of the table of commands: `{schur λ μ| · }` are the arguments of these names or roles, each as it looks, with the last words between; `sum` is their sum. */
+function filled(text, of, looks = SHOWN) {
+  return text.replace(/\{(\w+) ([^{}|]+)(?:\|([^{}]*))?\}/g, (_, look, names, joint = "") => {
+    const found = names.split(" ").flatMap(of);
+    return look === "sum" ? sumOf(found.flat()) : found.map(looks[look]).join(joint);
+  });
+}
+
+/** The arguments of a line: those of a name or role, in turn, each as its words. */
+function argumentsOf(line) {
+  const parts = partsOf(textsOfWords(line)) || [];
+  return (name) => parts.filter((it) => it.role === name || it.name === name).map((it) => it.words);
+}
+
+/** What a command computes, from its arguments. */
+function computed(name, of) {
+  const { computed, equation } = GRAMMAR.get(name);
+  return filled(computed ?? equation.join(""), of);
+}
 
 /** What is asked for of an answer, from the arguments of its command. */
 const ASKED = {
@@ -110,24 +92,18 @@ const ASKED = {
   degree: ({ of }) => `the degree of Gr(${of.length},${of.length + Number(of[0])})`,
   c: ({ at }, words) => {
     const [[basis] = [], [text] = []] = [words("basis")[0], words("expression")[0]], isQuantum = words("columns").length > 0;
-    if (basis) return `the coefficient of ${basis}_{${shown(at)}} in ${text ? shownExpression(text) : COMPUTED.plethysm(words).replace(/ in the basis .$/, "")}`;
-    return `the coefficient of ${isQuantum ? `σ_{${shown(at)}}` : schur(at)} in ${isQuantum ? COMPUTED.quantum(words) : words("partition").map(schur).join(" · ")}`;
+    if (basis) return `the coefficient of ${basis}_{${shown(at)}} in ${text ? shownExpression(text) : computed("plethysm", words).replace(/ in the basis .$/, "")}`;
+    return `the coefficient of ${isQuantum ? `σ_{${shown(at)}}` : schur(at)} in ${isQuantum ? computed("quantum", words) : words("partition").map(schur).join(" · ")}`;
   },
-  count: (_, words) => `the number of ${COMPUTED.tab(words).replace(/^the /, "")}`,
-  H: (_, words) => COMPUTED.quantum(words).replace(/ \* /g, " · ").replace("in QH*", "in H*"),
+  count: (_, words) => `the number of ${computed("tab", words).replace(/^the /, "")}`,
+  H: (_, words) => computed("quantum", words).replace(/ \* /g, " · ").replace("in QH*", "in H*"),
 };
-
-function inVariables(of) {
-  const [given] = of("variables");
-  return given ? ` in ${countOfThings(given[0], "variable", "variables")}` : "";
-}
 
 /** What a line computes, or what is asked for of its answer, in mathematics; nothing, if it is no command. (Read as a line it is that command.) */
 function computedBy(line, asked) {
-  const words = textsOfWords(line), parts = partsOf(words);
-  if (!parts || !Object.hasOwn(COMPUTED, words[0])) return "";
-  const of = (role) => parts.filter((it) => it.role === role).map((it) => it.words);
-  return asked ? ASKED[asked.kind](asked, of) : COMPUTED[words[0]](of) + (parts.some((it) => it.sign === "-m") ? ", on one line" : "");
+  const words = textsOfWords(line), of = argumentsOf(line);
+  if (!isCommand(words)) return "";
+  return asked ? ASKED[asked.kind](asked, of) : computed(words[0], of) + (words.includes("-m") ? ", on one line" : "");
 }
 
 /** What is proved of a quantum or fusion product, and what is a theorem; nothing of other lines. */

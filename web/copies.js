@@ -27,37 +27,27 @@ function sageTableau(rows, inner) {
   return `${isSkew ? "SkewTableau" : "Tableau"}(${list(cells)})`;
 }
 
-/** The arguments of a line, by role: each as its words. */
-function argumentsOf(line) {
-  const parts = partsOf(textsOfWords(line)) || [];
-  return (role) => parts.filter((it) => it.role === role).map((it) => it.words);
-}
-
 const sageParts = (words) => list(partition(words));
 /** An expression with its atoms as Sage has them: `s([2,1])`. */
 const sageExpression = (text) => text.replace(/([mehps])\[([\d,]*)\]/g, (_, basis, parts) => `${basis}(${sageParts(parts.split(",").filter(Boolean))})`);
 
-/** The left side of an equation in Sage, where Sage has it in the same ring. */
-const SAGE_LEFT = {
-  mult: (of) => of("partition").map((it) => `s(${sageParts(it)})`).join("*"),
-  skew: (of) => `s(${sageParts(of("partition")[0])}).skew_by(s(${sageParts(of("partition")[1])}))`,
-  coef: (of) => {
-    const [outer, left, right] = of("partition").map(sageParts);
-    return `(s(${left})*s(${right})).coefficient(${outer})`;
-  },
-  coprod: (of) => `s(${sageParts(of("partition")[0])}).coproduct()`,
-  schubert: (of) => `SchubertPolynomialRing(ZZ)(${list(of("permutation")[0].map(plainNumber))}).expand()`,
-  schubmult: (of) => of("permutation").map((it) => `X(${list(it.map(plainNumber))})`).join("*"),
-  expand: (of) => `${of("basis")[0][0]}(${sageExpression(of("expression")[0][0])})`,
-  plethysm: (of) => `${of("basis")[0][0]}((${sageExpression(of("outer")[0][0])}).plethysm(${sageExpression(of("inner")[0][0])}))`,
+/** What arguments look like in Sage. */
+const IN_SAGE = {
+  ...SHOWN,
+  s: (words) => `s(${sageParts(words)})`,
+  X: (words) => `X(${list(words.map(plainNumber))})`,
+  list: (words) => list(words.map(plainNumber)),
+  parts: sageParts,
+  sage: ([text]) => sageExpression(text),
 };
 
 /** The left side of the equation of a line in Sage, with ` == `; nothing, where it is not written. */
 function sageLeft(line) {
-  const of = argumentsOf(line), made = SAGE_LEFT[textsOfWords(line)[0]], [variables] = of("variables");
-  if (!made) return "";
+  const of = argumentsOf(line), { sage } = GRAMMAR.get(textsOfWords(line)[0]), [variables] = of("variables");
+  if (!sage) return "";
   const isNumber = ["outer", "inner"].some((role) => of(role).length > 0 && !/[mehps]/.test(of(role)[0][0]));
-  return isNumber ? "" : `${variables ? `(${made(of)}).restrict_partition_lengths(${plainNumber(variables[0])}, exact=False)` : made(of)} == `;
+  const left = filled(sage, of, IN_SAGE);
+  return isNumber ? "" : `${variables ? `(${left}).restrict_partition_lengths(${plainNumber(variables[0])}, exact=False)` : left} == `;
 }
 
 /** The equation of an answer for Sage, after the lines that define its names, or its right side; null if Sage has no such thing. */
@@ -104,10 +94,10 @@ function pythonCall(line) {
 /** The parent of an answer of terms in the package. */
 function pythonParent(line) {
   const of = argumentsOf(line), number = (role) => plainNumber(of(role)[0][0]), [name] = textsOfWords(line);
-  const own = { coprod: "s.tensor_square()", schubert: "monomials", schubmult: "X", dschubmult: "schubert_ring(double=True)" }[name];
+  const letter = letterOf(textsOfWords(line)), own = name === "coprod" ? "s.tensor_square()" : { x: "monomials", S: "X", SS: "schubert_ring(double=True)" }[letter];
   if (name === "quantum") return `calc.quantum_ring(${number("rows")}, ${number("columns")})`;
   if (name === "fusion") return `calc.fusion_ring(${number("rows")}, ${number("level")})`;
-  return `calc.${own ?? (of("variables").length > 0 ? `s.in_variables(${number("variables")})` : letterOf(textsOfWords(line)))}`;
+  return `calc.${own ?? (of("variables").length > 0 ? `s.in_variables(${number("variables")})` : letter)}`;
 }
 
 function pythonTerm({ c, q, first, second }) {

@@ -155,30 +155,11 @@ function markedText(part) {
 
 // ---- equations
 
-/** The left side of the equation of each command, from its arguments, and what holds for it: those of the role asked for, in turn, each as its words. */
-const LEFT = {
-  mult: (of) => [of("partition").map(schur).join(" · "), inVariables(of)],
-  skew: (of) => [`s_{${of("partition").map(shown).join("/")}}`, inVariables(of)],
-  coef: (of) => {
-    const [outer, ...factors] = of("partition").map(shown);
-    return [`c^{${outer}}_{${factors.join(",")}}`];
-  },
-  coprod: (of) => [`${schur(of("partition")[0])}(x, y)`],
-  quantum: (of) => COMPUTED.quantum(of).split(/(?= in QH)/).map((it) => it.replace("QH*", "QH^{*}")),
-  fusion: (of) => COMPUTED.fusion(of).split(/(?= for su)/),
-  schubert: (of) => [schubert(of("permutation")[0])],
-  schubmult: (of) => [of("permutation").map(schubert).join(" · ")],
-  dschubmult: (of) => [COMPUTED.dschubmult(of)],
-  stanley: (of) => [`F_{${permutationIndex(of("permutation")[0])}}`, inVariables(of)],
-  expand: (of) => [shownExpression(of("expression")[0][0])],
-  plethysm: (of) => [COMPUTED.plethysm(of).replace(/ in the basis \w$/, "")],
-};
-
 /** The left side of the equation of a line and what holds for it, or what was computed in words. */
 function leftOf(line) {
-  const words = textsOfWords(line), parts = partsOf(words);
-  if (!parts || !Object.hasOwn(LEFT, words[0])) return { left: computedBy(line), where: "" };
-  const [left, where = ""] = LEFT[words[0]]((role) => parts.filter((it) => it.role === role).map((it) => it.words));
+  const words = textsOfWords(line), { equation } = GRAMMAR.get(words[0]) || {};
+  if (!equation || !isCommand(words)) return { left: computedBy(line), where: "" };
+  const [left, where = ""] = equation.map((it) => filled(it, argumentsOf(line)));
   // (the comma that makes one reading of (12,) is for what is typed)
   return { left: left.replace(/(\d),\)/g, "$1)"), where };
 }

@@ -1,5 +1,7 @@
-"""The manual page calc.1, read for the page: the words of each command, its description, and the limits."""
+"""The table of commands, python/yorqanish/commands.json, as the manual page calc.1 and the page have it: the words of each command, its description, and
+the limits. `web/manual.py` writes these parts of calc.1 anew."""
 import html
+import json
 import os
 import re
 import shlex
@@ -12,13 +14,17 @@ def text_of(name):
         return document.read()
 
 
+TABLE = json.loads(text_of("python/yorqanish/commands.json"))
+COMMANDS, LIMITS = TABLE["commands"], TABLE["limits"]
+
+
 def missing(what):
     raise SystemExit(f"web/manual.py: {what} is not found in calc.1")
 
 
-def section(title):
-    found = re.search(rf"^\.Sh {title}\n(.*?)(?=^\.Sh |\Z)", text_of("calc.1"), re.DOTALL | re.MULTILINE)
-    return found[1] if found else missing(f"the section {title}")
+def forms_of_answers():
+    """The lines of calc.1 on the forms of answers."""
+    return text_of("calc.1").split(".Sh FORMS OF ANSWERS\n")[1].split("\n.Sh ")[0].splitlines()
 
 
 # ---- as HTML
@@ -59,17 +65,37 @@ def macro(words):
     return "".join(out)
 
 
-def paragraph(source):
-    """A text of the manual page as HTML."""
-    lines = [line for line in source.splitlines() if line and line != ".Pp"]
-    texts = [macro(shlex.split(line[1:])) if line.startswith(".") else plain(line) for line in lines]
+def paragraph(lines):
+    """Lines of the manual page as HTML."""
+    texts = [macro(shlex.split(line[1:])) if line.startswith(".") else plain(line) for line in lines if line and line != ".Pp"]
     return re.sub(r" ([.,;:])(?= |$)", r"\1", " ".join(texts))
 
 
+def macros(slots):
+    """Words of a command on a line of the manual page: each after its macro, but for those that have the one of the word before."""
+    out = [""]
+    for it in slots:
+        if isinstance(it, list):
+            name = "expression" if it[0] in ("outer", "inner") else it[1]
+            macro, text = "Cm" if it[0] == "basis" else "Ar", next((word for word, letter in GREEK.items() if letter == name), name)
+        else:
+            text = it if isinstance(it, str) else f'{it["more"][0]} ...'
+            macro, text = ("Fl", text[1:]) if text[1:].isalpha() else ("No", text)
+        out += [text] if macro == out[0] else [macro, text]
+        out[0] = macro
+    return " ".join(out[1:])
+
+
 def synopsis(name):
-    """The lines of the synopsis of a command after its name."""
-    found = re.search(rf"^\.Nm\n\.Cm {name}\n(.*?)(?=^\.Nm|\Z)", section("SYNOPSIS"), re.DOTALL | re.MULTILINE)
-    return found[1] if found else missing(f"the words of {name}")
+    """The lines of the synopsis of a command after its name. What is optional has a line of its own; so have the variables, and the basis."""
+    lines, is_over = [], True
+    for it in COMMANDS[name]["words"]:
+        is_optional = "optional" in it
+        if is_over or is_optional:
+            lines.append((".Op " if is_optional else ".", []))
+        lines[-1][1].extend(it["optional"] if is_optional else [it])
+        is_over = is_optional or "variables" in it or "basis" in it
+    return [begin + macros(words) for begin, words in lines]
 
 
 def form(name):
@@ -77,106 +103,59 @@ def form(name):
     return f"{name} {paragraph(synopsis(name))}".strip()
 
 
-def description(name):
-    found = re.search(rf"^\.It Cm {name}\n(.*?)(?=^\.It|^\.El)", section("DESCRIPTION"), re.DOTALL | re.MULTILINE)
-    return paragraph(found[1]) if found else missing(f"the description of {name}")
-
-
 def has_label(label):
-    return label in re.sub(r"\s+", " ", section("FORMS OF ANSWERS"))
+    return label in " ".join(forms_of_answers())
 
 
 def clause(begin):
     """The part of the text on the order of lines that begins so, up to the next semicolon or the end of the sentence."""
-    text = paragraph(section("FORMS OF ANSWERS"))
-    found = re.search(rf"(?:^|[.;] ){begin}\b[^;.]*", text)
+    found = re.search(rf"(?:^|[.;] ){begin}\b[^;.]*", paragraph(forms_of_answers()))
     if not found:
         missing(f"the order of {begin!r}")
     said = found[0].lstrip(".; ").strip()
     return f"{said[0].upper()}{said[1:]}."
 
 
-# ---- the limits
-
-
-def limit(name):
-    """The text of a limit, such as `1 to 64`."""
-    found = re.search(rf"^\.It {re.escape(name)}\n(.*)$", section("LIMITS"), re.MULTILINE)
-    return found[1] if found else missing(f"the limit {name!r}")
-
-
-def numbers_of(name):
+def numbers_of(limit):
     """The numbers of a limit: its least and greatest one, or its greatest one alone."""
-    return [int(it.replace(",", "")) for it in re.findall(r"\d[\d,]*", limit(name))]
+    return [int(it.replace(",", "")) for it in re.findall(r"\d[\d,]*", LIMITS[limit][1])]
 
 
-# ---- the words of a command in turn
-
-# What an argument of the synopsis is, by its name there. Where one name has several meanings, the command decides.
-ROLES = {
-    "lambda": "partition",
-    "mu": "partition",
-    "nu": "partition",
-    "w": "permutation",
-    "u": "permutation",
-    "v": "permutation",
-    "a b ...": "letters",
-    "K": "rows",
-    "stanley K": "variables",
-    "mult K": "variables",
-    "skew K": "variables",
-    "C": "columns",
-    "L": "level",
-    "m | e | h | p | s": "basis",
-    "expression": "expression",
-    "T": "tableau",
-    "P": "tableau",
-    "Q": "recording",
-    "rect T": "filling",
-    "N": "lines",
-    "seed": "seed",
-}
-
-
-def argument(name, word):
-    role = ROLES.get(f"{name} {word}") or ROLES.get(word) or missing(f"what {word!r} of {name} is")
-    return {"role": role, "name": GREEK.get(word, word)}
-
-
-def slots_of(name, words):
-    """The slots of a line of macros: words that stand as they are (`sign`), and arguments."""
-    if words[0] == "Op":
-        return [{"optional": slots_of(name, words[1:])}]
-    if "|" in words:
-        return [argument(name, " ".join(words[1:]))]
-    if words == ["Ar", "a", "b", "..."]:
-        return [argument(name, "a b ...")]
-    slots, style = [], ""
-    for word in words:
-        if word in MACROS:
-            style = word
-        elif word == "...":
-            slots[-1:] = [{"more": [slots[-1], dict(slots[-2])]}]
-        else:
-            slots.append(argument(name, word) if style == "Ar" else {"sign": f"-{word}" if style == "Fl" else word})
-    return slots
-
-
-def slots(name):
-    """The words of a command after its name, in turn, from the synopsis: a list of
+def slots(words):
+    """The words of a command after its name, in turn:
 
     {"sign": "-r"}                           a word that is typed as it is,
     {"role": "partition", "name": "λ"}       an argument: its role, which says what it can be, and its name in the synopsis,
     {"optional": [slot, ..]}                 slots that can be left out together,
     {"more": [slot, ..]}                     slots that can be repeated, up to the limit of the factors.
 
-    The roles are the values of ROLES; of two expressions, as those of a plethysm, the first is `outer` and the second `inner`. Of the roles `partition`, `permutation`, `letters`, `tableau`, `recording` and `filling` are lists, of no,
-    one or many words each; the others are one word each.
+    Of the roles `partition`, `permutation`, `letters`, `tableau`, `recording` and `filling` are lists, of no, one or many words each; the others are one
+    word each.
     """
-    lines = [shlex.split(line[1:]) for line in synopsis(name).splitlines()]
-    found = [slot for words in lines for slot in slots_of(name, words)]
-    expressions = [slot for slot in found if slot.get("role") == "expression"]
-    if len(expressions) == 2:
-        expressions[0].update(role="outer", name="F")
-        expressions[1].update(role="inner", name="G")
-    return found
+    def slot(it):
+        if isinstance(it, list):
+            return {"role": it[0], "name": it[1]}
+        return {"sign": it} if isinstance(it, str) else {key: slots(them) for key, them in it.items()}
+
+    return list(map(slot, words))
+
+
+# ---- the manual page
+
+
+def made(page):
+    """The manual page with the parts of it that are made of the table."""
+    parts = {
+        r"\.Sh SYNOPSIS\n": [line for name in COMMANDS for line in (".Nm", f".Cm {name}", *synopsis(name))],
+        r"\.Bl -tag -width dschubmult\n": [line for name, it in COMMANDS.items() for line in (f".It Cm {name}", *it["meaning"])],
+        r"\.Sh LIMITS\n.*\n": [line for name, said in LIMITS.values() for line in (f".It {name}", said)],
+    }
+    for begin, lines in parts.items():
+        page = re.sub(rf"({begin})(?:(?!\.Sh |\.El).*\n)*", lambda found, lines=lines: "\n".join([found[1].rstrip(), *lines, ""]), page, count=1)
+    return page
+
+
+if __name__ == "__main__":
+    text = made(text_of("calc.1"))
+    with open(f"{TOP}/calc.1", "w", encoding="utf-8") as file:
+        file.write(text)

@@ -1,39 +1,39 @@
 """The commands of `calc`: their arguments, the line of a call, and why a line was refused, in words: from what `calc` prints, and the line, alone."""
 from __future__ import annotations
 
+import json
+import os
 import re
 from itertools import takewhile
 from typing import Any, Dict, Iterable, List, Optional, Sequence, Tuple, Type
 
 from ._arguments import Numbers, numbers, partition, spoken, whole, without_zeros
 
-# What an argument can be. Numbers and expressions are one word; the others are lists.
-PARTITION, PERMUTATION, LETTERS, TABLEAU, NUMBER, EXPRESSION = range(6)
+# The one table of commands, beside this file.
+with open(os.path.join(os.path.dirname(__file__), "commands.json"), encoding="utf-8") as file:
+    TABLE: Dict[str, Any] = json.load(file)
+# What an argument can be, and the roles of the table that are this; the others are expressions. Numbers and expressions are one word each, all else lists.
+PARTITION, PERMUTATION, LETTERS, TABLEAU, NUMBER, EXPRESSION = "partition", "permutation", "letters", "tableau", "number", "expression"
+SORTS = {it: it for it in (PARTITION, PERMUTATION, LETTERS, TABLEAU)}
+SORTS.update(recording=TABLEAU, filling=TABLEAU, rows=NUMBER, columns=NUMBER, level=NUMBER)
 # An argument of a command: its name, what it is, and the word in front of it. (Plain tuples are unpacked the fastest.)
-Argument = Tuple[str, int, str]
-# (one factor more than `calc` takes, which it then refuses)
-FACTORS = [(f"factor {i}", PARTITION, "-" if i > 1 else "") for i in range(1, 10)]
-ROWS, OUTER, INNER, TARGET = ("rows", NUMBER, ""), ("outer", PARTITION, ""), ("inner", PARTITION, "/"), ("target", EXPRESSION, "")
-PERM, TWO_PERMUTATIONS = ("perm", PERMUTATION, ""), [("left", PERMUTATION, ""), ("right", PERMUTATION, "-")]
-COMMANDS: Dict[str, List[Argument]] = {
-    "mult": FACTORS,
-    "quantum": [ROWS, ("cols", NUMBER, ""), *FACTORS],
-    "fusion": [ROWS, ("level", NUMBER, ""), *FACTORS],
-    "skew": [OUTER, INNER],
-    "coef": [OUTER, ("left", PARTITION, "-"), ("right", PARTITION, "-")],
-    "coprod": [("shape", PARTITION, "")],
-    "tab": [OUTER, INNER, ("after", TABLEAU, "-from")],
-    "rect": [OUTER, INNER, ("tableau", TABLEAU, "-")],
-    "schubert": [PERM],
-    "stanley": [PERM],
-    "growth": [PERM],
-    "schubmult": TWO_PERMUTATIONS,
-    "dschubmult": TWO_PERMUTATIONS,
-    "rsk": [("letters", LETTERS, "")],
-    "unrsk": [("insertion", TABLEAU, ""), ("recording", TABLEAU, "-")],
-    "expand": [TARGET, ("expression", EXPRESSION, "")],
-    "plethysm": [TARGET, ("outer", EXPRESSION, ""), ("inner", EXPRESSION, "")],
-}
+Argument = Tuple[str, str, str]
+
+
+def arguments_of(words: Iterable[Any]) -> List[Argument]:
+    """The arguments that the words of a command of the table have here; factors are numbered, and there is one more than `calc` takes, which it then refuses."""
+    found: List[Argument] = []
+    sign = ""
+    for it in (slot for it in words for slot in (it.get("optional") or 7 * it["more"] if isinstance(it, dict) else [it])):
+        if isinstance(it, str):
+            # (what is an option of calls is in front of no argument)
+            sign = it if it not in ("-r", "-m") else ""
+        elif it[2:]:
+            found.append((it[2].format(1 + sum(sort == PARTITION for _, sort, _ in found)), SORTS.get(it[0], EXPRESSION), sign))
+    return found
+
+
+COMMANDS: Dict[str, List[Argument]] = {name: arguments_of(row["words"]) for name, row in TABLE["commands"].items() if row["answer"]}
 
 
 def typed(words: Sequence[Any]) -> str:
@@ -70,7 +70,7 @@ def words_of(line: str) -> List[str]:
     return [it for it in line.rstrip("\r\n").replace("\t", " ").split(" ") if it]
 
 
-def place_of(words: List[str], word: int) -> Tuple[str, int, int]:
+def place_of(words: List[str], word: int) -> Tuple[str, str, int]:
     """The name of the argument that a word of the line is in, what that is, and the word at which it begins. (Of a word that is in none it is the command.)"""
     at, found = 1, (words[0], EXPRESSION, 0)
     while words[at : at + 1] in (["-r"], ["-m"]):
@@ -92,32 +92,22 @@ def place_of(words: List[str], word: int) -> Tuple[str, int, int]:
     return found
 
 
-# Why a word of an argument is refused that is of the right form, by the kind of the refusal and by what the argument is.
-WHY = {
-    ("Range", PARTITION): "a product has at most 8 factors, a partition at most 64 parts and 512 cells",
-    ("Range", PERMUTATION): "at most 16 letters, and 8 of dschubmult",
-    ("Range", LETTERS): "at most 256 letters, each between 1 and 65,535",
-    ("Range", TABLEAU): "at most 256 entries, each between 1 and 65,535",
-    ("Range", NUMBER): "{name} is between 1 and 64",
-    ("Range", EXPRESSION): "the degree is at most 20 into m and s, 15 into p, h and e, and 10 in a plethysm; an atom has at most 64 numbers, and 64 parentheses can be open",
-    ("Shape", PARTITION): "part {number} of {name} is greater than the one before it, or than that of the outer partition",
-    ("Shape", PERMUTATION): "letter {number} of {name} occurs twice, or is not between 1 and the number of letters",
-    ("Shape", TABLEAU): "{name} is not a tableau of its shape from here on",
-    ("Shape", EXPRESSION): "a part is greater than the part before it, a denominator is 0, or the inner expression of a plethysm has a minus sign or a fraction",
-}
+# The greatest number of each limit, and why a word of an argument is refused that is of the right form, by the kind of the refusal and by what the argument is.
+MOST = {f"most {name}": said.split(" to ")[-1] for name, (_, said) in TABLE["limits"].items()}
+WHY = {(kind, sort): said for kind, sort, said, _ in TABLE["refusals"]}
 
 
 def why(kind: str, words: List[str], word: int, byte: int) -> str:
     """Why the words were refused at this place."""
     if word == 0:
-        return "a line has at most 4,096 bytes" if kind == "Range" else "there is no such command" if words else "there is no command"
+        return f"a line has at most {MOST['most batch']} bytes" if kind == "Range" else "there is no such command" if words else "there is no command"
     name, sort, start = place_of(words, word)
     if kind == "Literal":
-        return "a number is at most 2^127 - 1"
+        return f"a number is at most {MOST['most number']}"
     if kind == "Shape" and words[word : word + 1] == ["-from"]:
         return "the tableau after -from is not in the list"
     if kind != "Syntax":
-        return WHY[kind, sort].format(name=name, number=word - start + 1)
+        return WHY[kind, sort].format(name=name, number=word - start + 1, **MOST)
     if word == len(words):
         return "a product has two to eight factors" if name[:6] == "factor" and "-" not in words else "the command ends too early"
     if sort != EXPRESSION or name == "target" or not start:

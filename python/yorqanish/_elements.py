@@ -14,7 +14,7 @@ from operator import mul
 from typing import Any, Callable, Dict, Generic, ItemsView, Iterable, Iterator, KeysView, List, Mapping, NamedTuple, Optional, SupportsIndex, Tuple, Union, ValuesView, cast
 
 from ._arguments import Coefficient, Fixed, Label, Numbers, integer, ratio, whole
-from ._commands import typed
+from ._commands import TABLE, typed
 from ._kinds import DOUBLE, MONOMIALS, PAIRS, PERMUTATIONS, QUANTUM, SYMMETRIC, Kind, Number, added, atom, term
 
 # The bases of the ring of symmetric functions, between which elements are converted.
@@ -239,8 +239,7 @@ def parent_of(home: Home, line: List[Any]) -> Parent[Any]:
 
 
 # The parents of these lists; those of `expand` and `plethysm` are named by the next word.
-ANSWERS = {"mult": "s", "skew": "s", "stanley": "s", "coprod": "tensor_square", "schubert": "monomials", "schubmult": "X", "dschubmult": "double_X"}
-ANSWERS.update(quantum="quantum_ring", fusion="fusion_ring", expand="", plethysm="")
+ANSWERS = {name: row["parent"] for name, row in TABLE["commands"].items() if "parent" in row}
 
 
 def is_element(value: Any) -> bool:

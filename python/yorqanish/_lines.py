@@ -14,7 +14,7 @@ from queue import SimpleQueue
 from typing import Any, Callable, Deque, Dict, Generator, Generic, Iterable, Iterator, List, NamedTuple, Optional, Tuple, TypeVar, Union
 
 from ._arguments import text_of
-from ._commands import Refusal, inner_of, words_of
+from ._commands import TABLE, Refusal, inner_of, words_of
 from ._elements import Expansion, Home, home_of, parent_of
 from ._kinds import listed
 from ._tableaux import Grid, pair_of, tableau_of
@@ -27,15 +27,16 @@ WINDOW, LATE, MOST_IN_WINDOW = 0.02, 0.12, 1024
 MOST_AHEAD, MOST_KEPT = 4096, 1 << 26
 # For so long, in seconds, lines are read before those that are there are sent.
 READING = 0.05
-# The answers that are no lists of terms.
-OTHERS: Dict[str, Callable[[str, List[str]], Any]] = {
-    "coef": lambda text, words: int(text),
-    "tab": lambda text, words: [tableau_of(line, inner_of(words)) for line in text.splitlines() if line != "0"],
-    "rsk": lambda text, words: pair_of(text),
-    "unrsk": lambda text, words: tuple(map(int, text.split())),
-    "rect": lambda text, words: tableau_of(text.rstrip("\n")),
-    "growth": lambda text, words: Grid(tuple(map(listed, line.split(" "))) for line in text.splitlines()),
+# The answers that are no lists of terms, by what they are, and by their commands.
+KINDS: Dict[str, Callable[[str, List[str]], Any]] = {
+    "number": lambda text, words: int(text),
+    "tableaux": lambda text, words: [tableau_of(line, inner_of(words)) for line in text.splitlines() if line != "0"],
+    "pair": lambda text, words: pair_of(text),
+    "word": lambda text, words: tuple(map(int, text.split())),
+    "tableau": lambda text, words: tableau_of(text.rstrip("\n")),
+    "grid": lambda text, words: Grid(tuple(map(listed, line.split(" "))) for line in text.splitlines()),
 }
+OTHERS = {name: KINDS[row["answer"]] for name, row in TABLE["commands"].items() if row["answer"] in KINDS}
 
 
 def answer_of(words: List[Any], text: str, home: Home) -> Any:

@@ -15,33 +15,15 @@ from queue import Empty, SimpleQueue
 from typing import Any, Callable, Iterator, List, Optional, Sequence, Tuple, Union
 
 from ._arguments import text_of
+from ._commands import TABLE
 
 # The statuses by which a command says that memory was refused: for the text, which only the library does, or for the answer.
 NO_TEXT, NO_MEMORY = 5, 7
 
-# What each program and library is asked before anything that it says is taken for an answer of `calc`: a line of each command, and the answer
-# of this version, with its conventions and its order of terms.
-QUESTIONS = {
-    b"mult 2 1 - 1": b"1  (3,1)\n1  (2,2)\n1  (2,1,1)\n",
-    b"mult -m 1 - 1 - 1": b"s[3]+2*s[2,1]+s[1,1,1]\n",
-    b"mult 1 2 - 1": b"! Shape 2:0\n",
-    b"skew 3 2 1 / 2 1": b"1  (3)\n2  (2,1)\n1  (1,1,1)\n",
-    b"coef 3 2 1 - 2 1 - 2 1": b"2\n",
-    b"coprod 1": b"1  (1) ()\n1  () (1)\n",
-    b"quantum 2 2 1 - 1 - 1 - 1": b"2  q^0  (2,2)\n2  q^1  ()\n",
-    b"fusion 3 2 2 1 - 2 1": b"1  (3,2,1)\n1  (2,2,2)\n",
-    b"schubert 2 1 4 3": b"1  (2)\n1  (1,1)\n1  (1,0,1)\n",
-    b"schubmult 1 3 2 - 1 3 2": b"1  (1,4,2,3)\n1  (2,3,1)\n",
-    b"dschubmult 2 1 - 2 1": b"-1  (2,1) (1)\n1  (2,1) (0,1)\n1  (3,1,2) ()\n",
-    b"stanley -r 2 3 1 2": b"1  (2)\n",
-    b"expand p s[2,1]": b"-1/3  (3)\n1/3  (1,1,1)\n",
-    b"plethysm s h[2] h[2]": b"1  (4)\n1  (2,2)\n",
-    b"tab 2 1 / 1": b"1 / 1\n1 / 2\n",
-    b"rsk 3 1 2": b"P 1 2 / 3\nQ 1 3 / 2\n",
-    b"unrsk 1 2 / 3 - 1 3 / 2": b"3 1 2\n",
-    b"rect 2 2 / 1 - 1 / 1 2": b"1 1 / 2\n",
-    b"growth 2 1": b"() () ()\n() () (1)\n() (1) (1,1)\n",
-}
+# What each program and library is asked before anything that it says is taken for an answer of `calc`: the examples of each command, a line that is refused,
+# and the answers of this version, with its conventions and its order of terms.
+QUESTIONS = {line.encode(): text.encode() for row in TABLE["commands"].values() if row["answer"] for line, text in row["examples"].items()}
+QUESTIONS[b"mult 1 2 - 1"] = b"! Shape 2:0\n"
 # The line that is asked after others: where its known answer begins, theirs have ended. What is between two answers.
 LAST, END, BREAK, ENDED = b"rsk", b"P .\nQ .\n", b"--\n", b"--\nP .\nQ .\n"
 

@@ -1,4 +1,5 @@
 """Batches over several processes: the same blocks in the same order as those of one batch."""
+import inspect
 import os
 import random
 import subprocess
@@ -8,7 +9,7 @@ import time
 
 from common import CLOCKS, LIBRARY, PROGRAM, Skipped, main, printed, raises, same, within
 
-from yorqanish import Calculator, Refusal, _lines
+from yorqanish import Calculator, Refusal, _commands, _lines
 
 CALC = Calculator(program=PROGRAM)
 STAIRS = " ".join(map(str, range(6, 0, -1)))
@@ -184,6 +185,16 @@ def test_a_batch_is_lazy():
             for _ in range(5000):
                 same(next(blocks).answer[[2]], 1)
             blocks.close()
+
+
+def test_each_command_has_a_method():
+    """A command of the table has a method with its arguments and an example, and its examples have the texts that the table says."""
+    for name, row in _commands.TABLE["commands"].items():
+        if row["answer"]:
+            method = getattr(Calculator, name)
+            wanted = {"shapes" if sort == "partition" and argument[-1].isdigit() else argument for argument, sort, _ in _commands.COMMANDS[name]}
+            assert wanted <= set(inspect.signature(method).parameters) and ">>> " in method.__doc__, name
+            same({line: CALC.text(line) for line in row["examples"]}, row["examples"])
 
 
 def test_answers():
