@@ -12,10 +12,16 @@ const [script, what, count, seed = "1"] = process.argv.slice(2);
 vm.runInThisContext(fs.readFileSync(script, "utf8"));
 const [read, isRaw, notation_, signsOf_, parsed_, computed, typedOf_, plain] = vm.runInThisContext("[readTyped, (it) => isCommand(textsOfWords(it)), notation, signsOf, parsed, computedBy, typedOf, plainFormula]");
 
-let state = Number(seed);
+// (seeds beside each other begin far from each other)
+let state = Math.imul(Number(seed), 0x9e3779b1) & 0x7fffffff;
 // (the product of two numbers of 31 bits is kept whole by imul alone: else the numbers come round after some thousands)
 const random = (n) => ((state = (Math.imul(state, 1103515245) + 12345) & 0x7fffffff), Math.floor((state / 2147483648) * n));
 const pick = (list) => list[random(list.length)];
+function shuffled(list) {
+  const all = [...list];
+  for (let i = all.length - 1, j; i > 0; i -= 1) (j = random(i + 1)), ([all[i], all[j]] = [all[j], all[i]]);
+  return all;
+}
 
 // ---- made lines: lists, functions and signs beside each other, a tenth of them with one sign changed
 
@@ -125,9 +131,13 @@ const WRITTEN = {
   powers: (it) => raised(it).join() !== it.join() && `(${raised(it).join(",")})`, indexPower: (it) => it.length > 1 && runsOf(it).length === 1 && `s_${it[0]}^${it.length}`,
   bracedPowers: (it) => isApart(it) && raised(it).join() !== it.join() && `s_{${raised(it).join("")}}`,
 };
-const ALL_KNOWN = ["1", "2", "2 1", "21", "1 1", "11", "12", "1 1 1", "2 2", "3", "3 1", "31", "2 1 1", "22"].map((it) => it.split(" "));
-/** The lists of the questions: few of them give a few hundred texts for two questions, all of them more than a hundred thousand. */
-const isSmall = Number(count) <= 3000, KNOWN = ALL_KNOWN.slice(0, isSmall ? 6 : 11);
+/** The partitions of 1 to 6. */
+const partitionsOf = (n, most = n) => (n === 0 ? [[]] : Array.from({ length: Math.min(n, most) }, (_, i) => i + 1).flatMap((first) => partitionsOf(n - first, first).map((rest) => [String(first), ...rest])));
+const SMALL = [1, 2, 3, 4, 5, 6].flatMap((n) => partitionsOf(n));
+/** The lists of the questions: partitions that the seed chooses, each also with its digits as one number. Of few of them a few hundred texts are for two
+ * questions, of more of them some ten thousand. */
+const isSmall = Number(count) <= 3000, CHOSEN = [...shuffled(SMALL).slice(0, isSmall ? 4 : 6), pick([["12"], ["13"], ["10"], ["10", "1"], ["12", "2"]])];
+const KNOWN = shuffled(Array.from(new Map([...CHOSEN, ...CHOSEN.map((it) => [it.join("")])].map((it) => [it.join(" "), it])).values()));
 
 /** Texts by the questions for which they are written. */
 function writtenTexts() {
@@ -155,7 +165,7 @@ function writtenTexts() {
 }
 
 function questions() {
-  const wrong = [], kinds = { two: 0, offered: 0, one: 0, oneRuns: 0, oneOffered: 0 }, texts = writtenTexts();
+  const wrong = [], kinds = { two: 0, offered: 0, one: 0, oneRuns: 0, oneOffered: 0 }, texts = shuffled(writtenTexts());
   const wanted = (question) => question.replace(/^.* of /, "").replace(/ (?:-r|in) .*$|\)$/, "");
   for (const [text, all] of texts) {
     if (isRaw(text) || (all.size > 1 ? kinds.two >= Number(count) : random(20) > 0)) continue;
@@ -172,7 +182,7 @@ function questions() {
     else if (lists(line) === mine) kinds.oneRuns += 1;
     else wrong.push([text, line, [...all]]);
   }
-  return { texts: texts.size, ...kinds, wrong };
+  return { texts: texts.length, ...kinds, wrong };
 }
 
 // ---- formulas, and lines that run

@@ -76,7 +76,8 @@ function grammarOf(table, meanings) {
     const first = firstOf.get(name), begins = new Set([name]);
     for (const it of begins) ids.has(it) ? startsOf[ids.get(it)].forEach((start) => begins.add(states[start].name)) : firstOfItem(it).forEach((is, i) => is && (first[i] = 1));
   }
-  const fast = { firsts: states.map((it) => it.first), rules: Int32Array.from(states, (it) => it.rule), gaps: Uint8Array.from(states, (it) => it.gap), ofs: Int32Array.from(states, (it) => it.of.id) };
+  const samesOf = (id) => [id, ...startsOf[id].flatMap((it) => (states[it].of.isSame ? samesOf(states[it].rule) : []))], sames = names.map((_, id) => [...new Set(samesOf(id))]);
+  const fast = { sames, firsts: states.map((it) => it.first), rules: Int32Array.from(states, (it) => it.rule), gaps: Uint8Array.from(states, (it) => it.gap), ofs: Int32Array.from(states, (it) => it.of.id) };
   return { states, ids, kinds, labels, same, startsOf, startsBy: new Map(), signsOfItem, words: new Set([...literals].filter((it) => /^[A-Za-zü_]{2,}$/.test(it))), ...fast };
 }
 
@@ -84,7 +85,7 @@ function grammarOf(table, meanings) {
 function startsWith({ states, startsOf, startsBy, firsts, kinds }, id, kind, next) {
   const wide = kinds.size + 2, key = (id * wide + kind) * wide + next, found = startsBy.get(key);
   if (found) return found;
-  const open = startsOf[id].filter((it) => firsts[it][kind]), goesOn = (it) => states[it].rule >= 0 || firsts[it + 1] === null || firsts[it + 1][next];
+  const open = startsOf[id].filter((it) => firsts[it][kind] && !states[it].of.isSame), goesOn = (it) => states[it].rule >= 0 || firsts[it + 1] === null || firsts[it + 1][next];
   const made = { kept: open.filter(goesOn), stopped: open.filter((it) => !goesOn(it)).map((it) => it + 1) };
   startsBy.set(key, made);
   return made;
@@ -94,7 +95,7 @@ function startsWith({ states, startsOf, startsBy, firsts, kinds }, id, kind, nex
  * sign, as -1 less its place; `others` are further pairs of these. A node is a rule that has ended, with the items in which it has. `far` is how many
  * signs begin some line; `tried` are the states that would go on there. */
 function chartOf(grammar, rule, signs) {
-  const { kinds, firsts, rules, gaps, ofs, startsOf } = grammar, length = signs.length, wide = length + 1, root = grammar.ids.get(rule), none = kinds.size;
+  const { kinds, firsts, rules, gaps, ofs, sames, startsOf } = grammar, length = signs.length, wide = length + 1, root = grammar.ids.get(rule), none = kinds.size;
   const kind = [...signs.map((it) => kinds.get(it.kind) ?? none), none + 1, none + 1], blanks = [...signs.map((it, i) => (i === 0 ? 0 : it.gap ? 1 : 2)), 0];
   const [state, origin, before, between] = Array.from({ length: 4 }, () => new Int32Array(MOST_ITEMS + grammar.states.length)), others = new Map(), nodes = [];
   // (of each column: its items, and these as numbers; the rules that are awaited there, with the items that wait; and those that have ended there)
@@ -142,7 +143,8 @@ function chartOf(grammar, rule, signs) {
       const item = items[i], now = state[item];
       if (firsts[now] === null) end(at, ofs[now], origin[item], item);
       else if (rules[now] < 0) add(at + 1, now + 1, origin[item], item, -1 - at);
-      else wait(at, rules[now], item);
+      // (a rule that can be another one alone is awaited as that one, too)
+      else for (const it of sames[rules[now]]) wait(at, it, item);
     }
   }
   return { state, before, between, others, nodes, columns, root: columns[length].first + columns[length].ended.indexOf(root * wide), isWhole: columns[length].ended.includes(root * wide), far, tried, isLong: count >= MOST_ITEMS };
@@ -183,8 +185,8 @@ function nodesOf({ state, before, between, others, nodes, columns, root }, wide)
 
 /** The values of one node, each once; where two trees have the same one it is a repair, or doubtful, only if it is so in both. */
 function putValue(found, it) {
-  const nameOf = (of) => (of.name ??= JSON.stringify([of.value, of.digits]));
-  // (values are compared only where their convention about digits is the same)
+  const nameOf = (of) => (of.name ??= JSON.stringify([of.value, of.digits], (_, it) => (Array.isArray(it) && it.how ? [it.how, ...it] : it)));
+  // (values, with how their lists were typed, are compared only where their convention about digits is the same)
   const old = found.find((other) => other.digits === it.digits && nameOf(other) === nameOf(it));
   if (old) (old.isRepair = old.isRepair && it.isRepair), (old.isDoubt = old.isDoubt && it.isDoubt);
   else found.push(it);
@@ -226,9 +228,7 @@ function valuesOf({ states }, chart, signs) {
   };
   const valuesOfNode = (node) => {
     if (known[node] !== null) return known[node];
-    const found = [], [first, more] = nodes[node];
-    // (an alternative that is another rule alone has its values)
-    if (more === undefined && states[state[first]].of.isSame && !others.has(first)) return (known[node] = valuesOfNode(between[first]));
+    const found = [];
     for (const item of nodes[node]) if (!isMany) fill(item, Array(states[state[item]].of.count), states[state[item]].of, found);
     return (known[node] = found);
   };

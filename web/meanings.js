@@ -45,7 +45,6 @@ function cycled(cycles) {
 }
 
 // ---- expressions
-
 /** An expression, made of others; `isCalled`, if some function in it was typed as s(2). */
 const expression = (text, atoms = null, ...parts) => (text.length <= LIMITS.bytes ? { text, atoms, isCalled: parts.some((it) => it.isCalled) } : tooMuch());
 const atomText = (family, list) => `${family}[${list.join(",")}]`;
@@ -78,7 +77,6 @@ const listsOfAtoms = (it) => it.atoms.map(([, list]) => list);
 const schurFactors = (it) => (isProductOf("s", it) && it.atoms.length > 1 ? listsOfAtoms(it) : null);
 
 // ---- lines
-
 const reading = (...words) => ({ line: words.flat().filter((it) => it !== "" && it !== undefined).join(" ") });
 const between = (lists, sign = "-") => lists.flatMap((it, i) => (i > 0 ? [sign, ...it] : it));
 const variables = (count) => (count ? `-r ${plainNumber(count)}` : "");
@@ -150,7 +148,6 @@ function stanleyOf(w, count) {
 }
 
 // ---- the Grassmannian, and fusion
-
 const boxOf = (rows, columns) => (rows >= 1 && columns >= 1 ? { rows: Number(rows), columns: Number(columns) } : null);
 const isInBox = (list, { rows, columns }) => partition(list).length <= rows && Number(list[0] || 0) <= columns;
 const rectangle = ({ rows, columns }) => Array(rows).fill(String(columns));
@@ -162,12 +159,13 @@ const dualOf = (list, space) => (isPartition(list) && isInBox(list, space) ? Arr
 function classesIn(given, space) {
   const lists = space && given && given.map((it) => inFull(it, space));
   if (!areMany(lists) || !lists.every(isPartition)) return null;
-  const made = reading("quantum", String(space.rows), String(space.columns), between(lists)), ordinary = asking(made, { kind: "H" }, !lists.every((it) => isInBox(it, space)));
-  return given.how === (space.isQuantum ? "cup" : "star") ? eitherOf(ordinary, made) : space.isQuantum ? made : ordinary;
+  const made = reading("quantum", String(space.rows), String(space.columns), between(lists)), ordinary = asking(made, { kind: "H" }, !lists.every((it) => isInBox(it, space))), isQuantum = space.kind === "quantum";
+  // (in H* a sign of the keyboard is its product; with two different signs one can be that of the quantum product)
+  return { cup: isQuantum, star: !isQuantum, times: !space.kind, "": true }[given.how] ? eitherOf(ordinary, made) : isQuantum ? made : ordinary;
 }
 /** The coefficient of a class in a product of classes: without q, or with the power of q that the degrees leave. */
 function classCoefficient(list, lists, space, q = 0) {
-  const made = list && space && classesIn([...lists], { ...space, isQuantum: true }), [at, ...classes] = made ? [list, ...lists].map((it) => inFull(it, space)) : [];
+  const made = list && space && classesIn([...lists], { ...space, kind: "quantum" }), [at, ...classes] = made ? [list, ...lists].map((it) => inFull(it, space)) : [];
   if (!made || ![at, ...classes].every((it) => isPartition(it) && isInBox(it, space))) return null;
   return asking(made, { kind: "c", at: partition(at) }, sizeOfAll(classes) !== sumOf(at) + q * (space.rows + space.columns));
 }
@@ -176,7 +174,6 @@ const leastColumns = ({ lists }) => String(Math.max(1, ...lists.map((it) => Numb
 const fusionOf = (it, rows = leastRows(it), level = leastColumns(it)) => doubtful(it, areMany(it.lists) && it.lists.every(isPartition) ? reading("fusion", plainNumber(rows), plainNumber(level), between(it.lists)) : null);
 
 // ---- lists as they stand beside each other: `{lists, isAlone, sign}`
-
 /** The lists of some operands. A number alone beside lists can be a list, a coefficient or an option; numbers alone can be one list that is not finished. */
 function factorsOf(sign, operands) {
   const each = [].concat(operands).flatMap((it) => Array(it.times || 1).fill(it)), lists = few(each.map((it) => it.list));
@@ -205,7 +202,7 @@ function productWithNumbers(options, it) {
 const rowsText = (rows) => (rows.length === 0 ? ["."] : rows.flatMap((it, i) => [...(i > 0 ? ["/"] : []), ...(it.length > 0 ? it : ["."])]));
 
 const MEANINGS = {
-  typedWith, conjugate, timesText, powerOf, variables, kostkaOf, kostkaSkew, standardOf, characterOf, stanleyOf, boxOf, classesIn, classCoefficient, factorsOf, reading, copies, fusionOf,
+  typedWith, conjugate, timesText, powerOf, variables, kostkaOf, kostkaSkew, standardOf, stanleyOf, boxOf, classesIn, classCoefficient, factorsOf, reading, copies, fusionOf,
   // numbers and lists
   part: (number, times = "1") => (isPlain(number) ? copies(number, times) : null),
   partPower: (number, times) => (isPlain(number) ? eitherOf(copies(number, times), times.length > 1 && isDigits(times) && joined(copies(number, times[0]), [...times.slice(1)])) : null),
@@ -220,7 +217,7 @@ const MEANINGS = {
   list: (...all) => all,
   add: (list, more) => (list.length < 2 * LIMITS.values ? [...list, more] : tooMuch()),
   addAll: (list, more) => few(typedWith(list.how, [...list, ...more])),
-  addAs: (how, list, more) => MEANINGS.addAll(typedWith(how, list), more),
+  addAs: (how, list, more) => MEANINGS.addAll(typedWith((list.how ?? how) === how ? how : "", list), more),
   listPower: (list, [times, rest]) => (rest || Number(times) < 1 ? null : Number(times) > LIMITS.factors ? tooMuch() : Array(Number(times)).fill(list)),
   // expressions
   atom: (family, list) => (isPartition(list) && !(family === "p" && list.join() === "0") ? expression(atomText(family, list), [[family, list]], { isCalled: list.how === "called" }) : null),
@@ -255,9 +252,14 @@ const MEANINGS = {
   // products of lists
   // (a function with more rows than there are variables is 0 in these)
   product: (it, count, lists = Array.isArray(it) ? it : schurFactors(it)) => asking(productOf(lists, variables(count)), undefined, Boolean(count && lists?.some((list) => partition(list).length > count))),
+  // (a product that can be one of something else, which is not computed here)
+  orOther: (lists) => doubtful({ isDoubtful: true }, productOf(lists)),
+  ofGl: (lists, count, canBeDimensions = count !== "1" && lists.every((it) => it.length === 1 && !["index", "called"].includes(it.how))) =>
+    canBeDimensions ? eitherOf(...(count === "2" ? [0, 1] : [0]).map((less) => doubtful({ isDoubtful: true }, MEANINGS.product(lists.map(([it]) => [String(it - less)]), count)))) : MEANINGS.product(lists, count),
   // (S with an increasing list is also a Schur function, with its rows from the last one on)
   rowsOfS: (list) => (list.length === 1 && list[0].length > 1 ? null : [list, [...list].reverse()].find(isPartition)),
-  listProduct: (lists) => doubtful({ isDoubtful: lists.some((it) => it.how === "blanks") || lists.every((it) => it.how === "digits") }, productOf(lists)),
+  // (lists without a number that comes twice can be cycles, or permutations)
+  listProduct: (lists) => doubtful({ isDoubtful: lists.some((it) => it.how === "blanks") || lists.every((it) => it.how === "digits" || cycled([it])) }, productOf(lists)),
   // skew shapes, coefficients, numbers
   skew: (lists, count) => skewOf("skew", lists, variables(count)),
   inOrder: (a, b) => (skewOf("skew", [b, a]) ? [b, a] : [a, b]),
@@ -281,6 +283,7 @@ const MEANINGS = {
   orSize: (list) => doubtful({ isAlone: !list[1] && list.how }, standardOf(list)),
   standardSkew: ([outer, inner]) => (isPartition(outer) && isPartition(inner) && sumOf(inner) <= sumOf(outer) ? kostkaSkew([outer, inner], copies("1", sumOf(outer) - sumOf(inner))) : null),
   ofSize: (letters, it) => (sumOf(it.flat()) === Number(letters) ? it : null),
+  characterOf: (list, mu) => eitherOf(characterOf(list, mu), mu.join() === "1" && sumOf(list) > 1 && standardOf(list)),
   characterAtCycle: (list, cycle) => (Number(cycle) <= sumOf(list) ? characterOf(list, [cycle, ...(copies("1", sumOf(list) - Number(cycle)) || [])]) : null),
   characterOnly: (list) => (isPartition(list) ? eitherOf(standardOf(list), reading("expand p", atomText("s", list))) : null),
   inner: (a, b) => scalarProduct(a, b) || scalarProduct(b, a),
@@ -293,23 +296,23 @@ const MEANINGS = {
     const lists = given.flatMap((it) => (typeof it[0] === "string" ? [it] : it));
     return areLetters(lists) && lists.length === (name.endsWith("mult") ? 2 : 1) ? reading(name, between(lists)) : null;
   },
+  doubleProduct: (lists) => eitherOf(MEANINGS.permuted("dschubmult", lists), lists.length === 2 && lists.every((it) => it.how === "xy" && it.length <= 3) && MEANINGS.permuted("schubmult", lists)),
   schubertProduct: (lists) => (lists.length <= 2 ? MEANINGS.permuted(lists.length === 1 ? "schubert" : "schubmult", lists) : areLetters(lists) ? tooMuch("Two Schubert polynomials are multiplied at a time here.") : null),
   // (as many letters as it has, or more)
   schubertIn: (w, count) => (Number(count) >= w.length - 1 ? w : null),
   stanleyOrInverse: (w) => (isPermutation(w) ? eitherOf(stanleyOf(w), stanleyOf(inverseOf(w))) : null),
   nextLetter: (last, number) => (Number(number) === Number(last) + 1 ? number : null),
   rskTwice: (a, b) => (a.join() === b.join() ? reading("rsk", a) : null),
-  // (a list without an operation)
   bareList: (list) => eitherOf(isPartition(list) && reading("coprod", list), isPartition(list) && standardOf(list), ...["rsk", "schubert", "growth"].map((it) => areLetters([list]) && reading(it, list)), areLetters([list]) && stanleyOf(list)),
   rsk: (word) => (word.every((it) => Number(it) >= 1) ? reading("rsk", word) : null),
   // the Grassmannian and fusion
   grassmannian: (k, n) => boxOf(k, n - k),
   subspaces: (k, n) => boxOf(Number(k) + 1, n - k),
-  space: (kind, space) => space && { ...space, isQuantum: kind === "quantum" },
+  space: (kind, space) => space && { ...space, kind },
   integral: (lists, space) => classCoefficient(MEANINGS.point(), lists, space),
   invariant: (a, b, c, q, space) => classCoefficient(dualOf(inFull(c, space), space), [a, b], space, Number(q)),
   degree: (space) => (space.rows * space.columns <= LIMITS.degree ? standardOf(rectangle(space), "degree") : tooMuch()),
-  // (a line meets a line in one condition in three dimensions, and in no other number)
+  // (a line meets a line in one condition in three dimensions alone)
   lines: (count, dimension) => MEANINGS.planes("2", dimension === "3" && 4, count, "2"),
   planes: (k, n, count, other) => (n - k === Number(other) && k * other === Number(count) && boxOf(k, n - k) ? MEANINGS.degree(boxOf(k, n - k)) : null),
   // (labels of Dynkin are k-1 numbers with a sum of at most the level, or k with that sum; a number alone can be a dimension)
@@ -336,7 +339,7 @@ const MEANINGS = {
   mult: withOptions(productWithNumbers),
   productOfGl: ({ lists }) => {
     const count = String(lists[0].length), inGl = lists.every((it) => it.length === lists[0].length) && productOf(lists, variables(count));
-    return inGl && lists.some((it) => it[count - 1] === "0") ? inGl : eitherOf(inGl, productOf(lists));
+    return inGl && lists.some((it) => it[count - 1] === "0") ? inGl : eitherOf(inGl, doubtful({ isDoubtful: inGl }, productOf(lists)));
   },
   coefOf: (it) => inSomeOrder(doubtful(it, coefOf(it.lists)), it.lists),
   shapeOfTwo: (it) => (it.lists.length === 2 && ["side", "comma"].includes(it.sign) ? Object.assign([...it.lists], { isDoubtful: Boolean(it.isAlone || it.isDoubtful) }) : null),

@@ -13,13 +13,14 @@
 const NOTATIONS = String.raw`
 # ---------------------------------------------------------------- signs
 - == − ‐ ‑ ‒ – — ﹣ －
-* == · × ⋅ • \cdot \times times
+· == × ⋅ • \cdot \times times
 ∗ == \ast \star ⋆ ★
 / == ⁄ ∕
 ∖ == ⧵ \ \setminus \backslash
 < == ⟨ 〈 \langle
 > == ⟩ 〉 \rangle
 ∪ == \cup ⌣ \smile
+∩ == \cap
 ⊗ == \otimes
 ⊠ == \boxtimes
 ⊕ == \oplus
@@ -72,8 +73,8 @@ Minus "-" := -
 Sch ~= S 𝔖
 Prime ~= ' ′ ’
 To ~= in to into as
-Dot "a times sign" ~= * ∗ ⊗ ∪ ∩
-Ast "a times sign" ~= * ∗
+Dot "a times sign" ~= * · ∗ ⊗ ∪ ∩
+Ast "a times sign" ~= * · ∗
 Over ~= / ∖
 Greek ~= λ μ ν α β ρ
 O_ ~= ∘ o
@@ -170,7 +171,7 @@ Exp "an exponent" = ~^ ~NUM -> exponent  # ^2; ^21 is 21, or 2 and a digit
   | cubed -> list "3"
   | to NUM power? -> list
 Arg "a partition" = Lam -> 1  # in a phrase
-  | s Index -> 2
+  | s Index -> typedWith index
   | Tightly -> 1
   | Compact -> ? 1  # 2: a partition, or a number
   | Blanks -> 1
@@ -187,7 +188,6 @@ Atom "a symmetric function" = Family Index -> atom
   | ch ~( S Above ) -> atom s 4  # of a Specht module
   | frobenius characteristic of? S Above -> atom s 5
   | symmetricfunctions ( Ring ) . Family ( ) Index -> atom
-  | Family Index InX -> atom  # h_2[X]
 InX = ~[ ~X ~] -> ""
 Ring = QQ|ZZ -> ""
 Named = monomial Functions? -> word m  # the power sum p_3
@@ -197,6 +197,7 @@ Named = monomial Functions? -> word m  # the power sum p_3
   | schur Functions? -> word s
 Functions = symmetric? functions|polynomials -> ""
 Power = Atom -> 1
+  | Atom InX -> 1  # h_2[X]
   | Named Atom -> named
   | Paren -> 1
   | Det -> 1
@@ -228,7 +229,7 @@ Factor "a factor" = Power -> 1
   | Scalar / NUM -> written /
   | frac { Scalar } { NUM } -> written /
 Term "an expression" = Factor -> 1
-  | Term * Factor -> timesText
+  | Term *|· Factor -> timesText
   | Term ∗ Factor -> ? timesText  # or the internal product
   | Term Power -> timesText  # h_3 e_2, 2 s_1
   | Term Scalar -> ! timesText  # h[2]^{2}3
@@ -337,7 +338,7 @@ SVar = SAtom ~( Letters ) -> inLetters  # s_{2,1}(x_1,x_2)
   | Functor Cn -> inLetters  # Sym^4(C^2)
 SVars = SVar -> list
   | SVar Exp -> listPower
-  | SVars *|⊗? SVar -> add
+  | SVars *|·|⊗? SVar -> add
 Product = product of? Both -> 3
   | symmetrica . mult_schur_schur|outerproduct_schur ( Lams ) -> 5
   | multiply Both -> 2
@@ -348,7 +349,7 @@ SchurProduct = schur functions? product of|:? -> ""
   | outer product of|:? -> ""
 Question = Sum InVariables -> product
   | SchurProduct Sum -> bare
-  | SchurProduct ListProduct -> listProduct
+  | SchurProduct ListProduct -> product
   | SchurProduct Both -> product
   | Sum ForGl -> ! product
   | CompactProduct -> ? product  # 21*21: or a product of numbers
@@ -360,8 +361,8 @@ Question = Sum InVariables -> product
   | multiply And -> bare 2
   | Product -> product
   | Product InVariables -> product
-CompactProduct = Compact * Compact -> list
-  | CompactProduct * Compact -> add
+CompactProduct = Compact *|· Compact -> list
+  | CompactProduct *|· Compact -> add
 # skew shapes, coefficients, numbers
 Inner = Lam -> 1
   | Commas -> 1
@@ -439,7 +440,7 @@ Bracketed = Round -> 1
   | Square -> 1
 Down2 = ~_ ~{ Pair } -> 3
 Monomial = XPower -> 1
-  | Monomial *? XPower -> join
+  | Monomial *|·? XPower -> join
 XPower = XLetter -> part
   | XLetter ~^ ~NUM -> part
   | XLetter ~^ ~{ NUM } -> part
@@ -613,10 +614,11 @@ SPoly "a Schubert polynomial" = Sch|schubert Perm -> 2
   | X ~Square -> 2  # Sage
   | X ~( Square ) -> 3
   | schubert polynomials of? SPoly -> 4
-DPoly = SPoly ~( x ;|, y ) -> 1
+DPoly = SPoly ~( x ; y ) -> 1
+  | SPoly ~( x , y ) -> typedWith xy  # or the polynomial in two variables
 SPolys = SPoly -> list
   | SPoly Exp -> listPower
-  | SPolys *|∪|∩? SPoly -> add
+  | SPolys *|·|∪|∩? SPoly -> add
   | SPolys ⊗|∗ SPoly -> ? add  # or the outer, or the quantum product
 DPolys = DPoly -> list
   | DPolys Dot? DPoly -> add
@@ -652,7 +654,7 @@ Question = SPolys -> schubertProduct
   | OfS_ -> ? bare  # S_{321}: of Schubert, or of Schur
   | OfS_ ~( x ) -> ? bare
   | SPolys InFlags -> ? schubertProduct
-  | DPolys -> permuted dschubmult
+  | DPolys -> doubleProduct
   | product of? schubert? polynomials? SPolys By SPoly -> permuted schubmult 5 7
   | schubmult_py WOther -> permuted schubmult
   | lrcalc . mult_schubert WOther -> permuted schubmult
@@ -699,8 +701,8 @@ InField = , Z|ℤ|Q|ℚ|C|ℂ -> ""
 KAndN = NUM , NUM -> grassmannian
 Small = small? quantum cohomology ring? -> ""
 Space "Gr(k,n)" = GrOf -> 1
-  | H|A Star ~( GrOf InField? ) -> 4
-  | cohomology|chow ring? of GrOf -> 4
+  | H|A Star ~( GrOf InField? ) -> space ordinary 4
+  | cohomology|chow ring? of GrOf -> space ordinary 4
   | QH Star? ~( GrOf InField? ) -> space quantum 4
   | Small of? GrOf -> space quantum
   | QH ( KAndN ) -> ? space quantum
@@ -726,7 +728,8 @@ ClassPower = Class -> list
   | σ IndexPower -> list
   | Class Exp -> listPower
 Classes = ClassPower -> 1
-  | Classes *|⊗|∩ ClassPower -> addAll
+  | Classes ·|⊗|∩ ClassPower -> addAll
+  | Classes * ClassPower -> addAs times  # in a Gr(k,n): the product of H*, or the quantum product
   | Classes Cup ClassPower -> addAs cup  # that of H*, or the quantum product
   | Classes ∗ ClassPower -> addAs star  # the quantum product, or that of H*
   | Classes ClassPower -> addAll
@@ -782,12 +785,18 @@ ListFactor = Round -> list
   | Square -> list
   | { Inside } -> list
   | Round Exp -> listPower
-ListProduct = ListFactor * ListFactor -> addAll  # (2,1)*(2,1)
+ListProduct = ListFactor *|· ListFactor -> addAll  # (2,1)*(2,1)
   | { Inside } . { Inside } -> list  # SCHUR
-  | ListProduct * ListFactor -> addAll
+  | ListProduct *|· ListFactor -> addAll
   | ListFactor ∗ ListFactor -> ? addAll  # or the internal product
   | ListProduct ∗ ListFactor -> ? addAll
   | Round Exp -> listPower  # (2,1)^2
+Reflection = s ~_ ~NUM -> list
+  | s ~_ ~{ NUM } -> list
+  | s ~NUM -> list
+Reflections = Reflection *|·? Reflection -> list
+  | Reflections *|·? Reflection -> add
+Braces = { Inside } * { Inside } -> list 2 6
 Juxtaposed = Round Round -> list
   | Juxtaposed Round -> add
 Question = SProduct2 -> ! product  # σ_1^4: no Gr(k,n) is said
@@ -796,6 +805,8 @@ Question = SProduct2 -> ! product  # σ_1^4: no Gr(k,n) is said
   | ListProduct -> listProduct
   | ListProduct InVariables -> product
   | Juxtaposed -> ? product  # (3,1)(2): a product of s, or of cycles
+  | Reflections -> orOther  # s_1 s_2: of s, or of simple transpositions
+  | Braces -> orOther  # {2,1}*{2,1}: of Littlewood, or his inner product
 # ---------------------------------------------------------------- modules of GL_n and of S_n
 Indexed = s Index -> typedWith index
   | V Index -> 2
@@ -803,7 +814,7 @@ Indexed = s Index -> typedWith index
 TensorOf = tensor product? decomposition? of? -> ""
 TensorPair = Indexed By Indexed -> list
   | Lam By Lam -> list
-  | Lam *|⊗|,? Lam -> list
+  | Lam *|·|⊗|,? Lam -> list
 IntoSum = into|in|as -> ""
   | into|as sum of -> ""
 Irreducibles = IntoSum irreducible|irreducibles|irreps representations|components|constituents|modules|characters? -> ""
@@ -853,12 +864,12 @@ ForV = for|of|over|under GL ( V ) -> ""
   | as a? GL ( V ) -? representations|representation|module|modules -> ""
 Specht = S Above ⊗ S Above -> list 2 5
   | Specht ⊗ S Above -> add 1 4
-Young = Sn * Sn -> list
-  | Young * Sn -> add
+Young = Sn *|· Sn -> list
+  | Young *|· Sn -> add
 YoungIn = Young to Sn -> ofSize 3 1
 IndFrom = ind ~_ ~{ Young } -> 4
   | ind ~_ ~{ Young } UpTo -> ofSize 6 4
-Spechts = S Above *|⊠|⊗ S Above -> list 2 5
+Spechts = S Above *|·|⊠|⊗ S Above -> list 2 5
   | S Above By S Above -> list 2 5
 SpechtsTo = Spechts to Sn -> ofSize 3 1
 Induce = induction product of? -> ""
@@ -876,19 +887,19 @@ Restrict = restriction|restrict|res of? specht? module? -> ""
 Sn = S ~_ ~NUM -> 3
   | S ~_ ~{ NUM } -> 4
 Pair_ = young subgroup|subgroups -> ""
-  | young? subgroup|subgroups? SAny * SAny -> ""
+  | young? subgroup|subgroups? SAny *|· SAny -> ""
 SAny = Sn -> ""
   | S ~_ k -> ""
   | S ~_ ~{ NUM - k } -> ""
   | S ~_ ~{ n - k } -> ""
 Question = Tensor -> ! product  # of modules of GL
   | Littlewood -> ! plethysm s  # {2}⊗{3}: h_3[h_2]
-  | Product_? Tensor Irreducibles? ForGl Irreducibles? -> product 2 4
-  | GlOf Stop? Product_? Tensor -> product 4 1
-  | TensorOf TensorPair ForGl -> product
+  | Product_? Tensor Irreducibles? ForGl Irreducibles? -> ofGl 2 4
+  | GlOf Stop? Product_? Tensor -> ofGl 4 1
+  | TensorOf TensorPair ForGl -> ofGl
   | TensorOf TensorPair -> ! product
-  | GlOf Stop? TensorOf TensorPair -> product 4 1
-  | clebsch - gordan TensorOf? ForGl ~: TensorPair -> product 7 5
+  | GlOf Stop? TensorOf TensorPair -> ofGl 4 1
+  | clebsch - gordan TensorOf? ForGl ~: TensorPair -> ofGl 7 5
   | Modules Into? -> inSchur 1
   | Modules Irreducibles? ForGl -> product 1 3
   | TensorOf ModulePair ForGl -> product
@@ -966,8 +977,8 @@ Dash = Any ␣- ␣Any -> list
   | Dash ␣- ␣Any -> add
 DashTight = Any - Any -> ! list  # 2 1 -1: a sign right before a number
   | DashTight - Any -> add
-Star_ = Any *|∗|⊗ Any -> list
-  | Star_ *|∗|⊗ Any -> add
+Star_ = Any *|·|∗|⊗ Any -> list
+  | Star_ *|·|∗|⊗ Any -> add
 Comma = CommaA -> 1
   | CommaB -> 1
 CommaA = Cut , Cut -> list
@@ -1032,8 +1043,8 @@ Command = coef|lrcoef|LR Factors -> coefOf
   | coprod One -> coproduct
 AnyList = Any -> listOf
 OperandList = Operand -> listOf
-StarLists = AnyList *|∗|⊗ AnyList -> list
-  | StarLists *|∗|⊗ AnyList -> add
+StarLists = AnyList *|·|∗|⊗ AnyList -> list
+  | StarLists *|·|∗|⊗ AnyList -> add
 Skew "a skew shape" = AnyList Over AnyList -> list
   | ( AnyList Over AnyList ) -> list
   | [ AnyList Over AnyList ] -> list
@@ -1075,7 +1086,7 @@ WPerm "a permutation" = Square -> 1
   | σ ~Index -> ! 2
   | Simple -> simple
 Simple = s ~_ ~NUM -> list  # s_1 s_2: simple transpositions
-  | Simple *? s ~_ ~NUM -> add
+  | Simple *|·? s ~_ ~NUM -> add
 Cycles = Round -> roundPermutation
   | CycleList -> cycles  # (1 2)(2 3): from the right, or from the left
 CycleList = Round Round -> list
@@ -1084,7 +1095,7 @@ WOther "two permutations" = ( Square , Square ) -> list
   | ( Compact , Compact ) -> list
   | ( Round , Round ) -> roundPair
   | WPerm ␣- ␣WPerm -> list
-  | WPerm * WPerm -> list
+  | WPerm *|· WPerm -> list
   | WPerm WPerm -> list
   | WPerm , WPerm -> list
   | WPerm and WPerm -> list

@@ -7,8 +7,6 @@ const ALL_UNSEEN = new RegExp(UNSEEN, "gu");
 /** Unseen characters inside a word; those that stand for a sign: the soft hyphen, and the signs of MathML for times, a comma and plus; and a mark after
  * which a text runs from right to left, with something after it: its numbers are seen in another order. */
 const MISSEEN = [new RegExp(`[\\p{L}\\p{N}](?:${UNSEEN.source})+[\\p{L}\\p{N}]`, "u"), /[\u00ad\u2062-\u2064]/, /[\u061c\u200f\u202b\u202e\u2067].*\S/u];
-
-/** Whether a text with unseen characters can be seen as another one. */
 const isMisseen = (text) => MISSEEN.some((it) => it.test(text));
 
 /** The signs of a text, in turn: `{kind, value, at, end, gap}`, of which `kind` is the sign in the notations and `gap` a blank before it. `words` are
@@ -25,7 +23,7 @@ function signsOf(text, { words, same }) {
   };
   const putWord = (word, at) => {
     const end = at + word.length, small = word.toLowerCase(), isApart = text[at - 1] === " " && text[end] === " ";
-    if (word === "x" && isApart) return put("*", at, end);
+    if (word === "x" && isApart) return put("·", at, end);
     if (word === "a" && isApart && /^ (?:[A-Za-z]{2}|\d)/.test(text.slice(end, end + 3))) return;
     if (words.has(word) || word.length === 1) return put(word, at, end);
     if (same.has(word) || same.has(small)) return put(same.get(word) ?? same.get(small), at, end);

@@ -33,7 +33,7 @@ const keyOf = (it) => `${it.line}|${it.asked ? JSON.stringify(it.asked) : ""}`;
 
 /** Readings in the order in which they are offered, each once: digits apart before numbers of several digits, those that are 0 by size last. */
 function offered(readings) {
-  const isKnown = (it) => it.line && isSound(textsOfWords(it.line)), rank = (it) => (it.zero ? 8 : 0) + (it.digits === 2 ? 4 : it.isDoubtful ? 2 : 0) + (it.line.startsWith("expand") && !it.asked ? 1 : 0);
+  const isKnown = (it) => it.line && isSound(textsOfWords(it.line)), rank = (it) => (it.zero ? 8 : 0) + (it.digits === 2 ? 4 : it.isDoubtful ? 2 : 0) + (it.line.startsWith("expand") && !it.asked ? 1 : 0) + (it.line.startsWith("mult -r") ? 0.5 : 0);
   const found = new Map(readings.filter(isKnown).sort((a, b) => rank(a) - rank(b)).map((it) => [keyOf(it), it]));
   return [...found.values()].slice(0, MOST_OFFERED);
 }
