@@ -1,18 +1,15 @@
--- Words that are divided into the parts of a command (`AreCut`): the command that they spell, and its errors.
-use Rattle.std.proofs.Common.{◌≡◌, ℕ, ◌+◌, List, [], ◌∷◌, drop, length, refl, ap, ◌∙◌, Ok, rules}
+-- Words that are divided into the parts of a command (`AreCut`): the values that they denote.
+use Rattle.std.proofs.Common.{◌≡◌, ℕ, ◌+◌, List, [], ◌∷◌, drop, length, refl, ap, ◌∙◌, Ok, inl, rules}
 use Rattle.std.proofs.lemmas.List.{append-nil}
-use Rattle.sym_model.specs.Command.{Command}
-use Rattle.sym_model.specs.CommandOffence.{Offence, first_offence}
 use Rattle.sym_model.specs.Form.{Written, May, Has, words_of}
+use Rattle.sym_model.specs.WordForms.{the}
 use Rattle.word_laws.specs.Words.{Words}
 use Rattle.calc_words.specs.Commands.{command_of, IsSound}
 use Rattle.calc_words.specs.declared.command.Command.{Command as Read}
 use Rattle.calc_words.specs.Reading.{IsRead}
-use Rattle.calc_words.specs.Parts.{form_of_part, form_of, command_form, parts_offend, IsCut, written_of, AreCut, AreFine}
+use Rattle.calc_words.specs.Parts.{form_of_part, form_of, command_form, IsCut, written_of, AreCut}
 use Rattle.calc_words.specs.declared.word_parts.Part.{Part}
 use Rattle.calc_words.proofs.CutWords.{dropped}
-use Rattle.calc_words.proofs.Commands.{read_judged}
-use Rattle.calc_words.proofs.PartOffences.{parts_fine}
 
 -- the value that the words of a command denote, from the value x that the words of its parts denote
 abbrev pub said_of : (name : List ℕ) (ps : List Part) → Written (form_of ps) → Written (command_form name ps)
@@ -49,13 +46,7 @@ has_of name ps places words k = record {
       ∙ said_spelled name ps (written_of ps 0 1 places words k.parts);
 }
 
--- let words be divided into the parts of a command. Suppose that the errors of the command are those of its parts, and that no part has an error.
--- Then the command d that the parts spell, if it satisfies `IsSound`, is a correct result of reading the words.
-pub fine : (name : List ℕ) (ps : List Part) (places : List ℕ) (words : Words) (k : AreCut name ps places words)
-    (says : Written (command_form name ps) → Command) (offends : Written (command_form name ps) → List Offence) (c d : Read)
-    → offends (said_of name ps (written_of ps 0 1 places words k.parts)) ≡ parts_offend ps 1 (written_of ps 0 1 places words k.parts)
-    → AreFine ps 1 (written_of ps 0 1 places words k.parts) → c ≡ d → command_of d ≡ says (said_of name ps (written_of ps 0 1 places words k.parts)) → IsSound d
-    → IsRead (record { name = name; form = command_form name ps; says = says; offends = offends } ∷ []) words (Ok c)
-fine name ps places words k says offends c d o h e s i =
-    read_judged (record { name = name; form = command_form name ps; says = says; offends = offends }) words (has_of name ps places words k) d s i (Ok c)
-    (e, ap first_offence o ∙ parts_fine ps 1 (written_of ps 0 1 places words k.parts) h)
+-- if the words are only the name of a command, the command that is spelled by its name alone is a correct result of reading them
+pub name_read : (name : List ℕ) (places : List ℕ) (words : Words) → AreCut name [] places words → (c : Read) → IsSound c
+    → IsRead (record { name = name; form = the name; says = λ x. command_of c; offends = λ x. [] } ∷ []) words (Ok c)
+name_read name places words k c i = (inl (record { has = has_of name [] places words k; says_it = refl; no_offence = refl }), i)
