@@ -136,7 +136,7 @@ const partitionsOf = (n, most = n) => (n === 0 ? [[]] : Array.from({ length: Mat
 const SMALL = [1, 2, 3, 4, 5, 6].flatMap((n) => partitionsOf(n));
 /** The lists of the questions: partitions that the seed chooses, each also with its digits as one number. Of few of them a few hundred texts are for two
  * questions, of more of them some ten thousand. */
-const isSmall = Number(count) <= 3000, CHOSEN = [...shuffled(SMALL).slice(0, isSmall ? 4 : 6), pick([["12"], ["13"], ["10"], ["10", "1"], ["12", "2"]])];
+const isSmall = Number(count) <= 3000, CHOSEN = [...shuffled(SMALL).slice(0, isSmall ? 3 : 6), pick([["12"], ["13"], ["10"], ["10", "1"], ["12", "2"]])];
 const KNOWN = shuffled(Array.from(new Map([...CHOSEN, ...CHOSEN.map((it) => [it.join("")])].map((it) => [it.join(" "), it])).values()));
 
 /** Texts by the questions for which they are written. */
@@ -168,7 +168,7 @@ function questions() {
   const wrong = [], kinds = { two: 0, offered: 0, one: 0, oneRuns: 0, oneOffered: 0 }, texts = shuffled(writtenTexts());
   const wanted = (question) => question.replace(/^.* of /, "").replace(/ (?:-r|in) .*$|\)$/, "");
   for (const [text, all] of texts) {
-    if (isRaw(text) || (all.size > 1 ? kinds.two >= Number(count) : random(20) > 0)) continue;
+    if (isRaw(text) || (all.size > 1 ? kinds.two >= Number(count) : kinds.one >= Number(count) / 4)) continue;
     const { line, unread } = read(text), offers = unread ? unread.offers : [];
     if (all.size > 1) {
       kinds.two += 1;
