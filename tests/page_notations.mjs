@@ -54,9 +54,11 @@ function madeLine(isClear = false) {
 
 // ---- all trees, by trying all ways to cut a line
 
+/** A value, with how its lists were typed. */
+const nameOf = (it) => JSON.stringify([it.value, it.digits], (_, of) => (Array.isArray(of) && of.how ? [of.how, ...of] : of));
+
 function treesOf(signs) {
   const { states, startsOf, ids, signsOfItem } = notation_(), known = new Map(), length = signs.length;
-  const nameOf = (it) => JSON.stringify([it.value, it.digits]);
   const derived = (id, begin, end) => {
     const key = `${id} ${begin} ${end}`;
     if (!known.has(key)) {
@@ -107,7 +109,7 @@ function trees() {
     if (signs.length === 0 || signs.length > 13) continue;
     tried += 1;
     const mine = treesOf(signs), { values, isMany } = parsed_(notation_(), "Line", signs);
-    const theirs = values.map((it) => JSON.stringify([it.value, it.digits]) + it.isRepair + it.isDoubt).sort();
+    const theirs = values.map((it) => nameOf(it) + it.isRepair + it.isDoubt).sort();
     if (!isMany && JSON.stringify(mine) !== JSON.stringify(theirs)) wrong.push([line, mine, theirs]);
     const it = read(line), sure = new Set(mine.filter((of) => of.includes('"line"') && /\]false(?:true|false)$/.test(of)).map((of) => JSON.parse(of.replace(/(?:true|false)+$/, ""))[0]).map((of) => of.line + JSON.stringify(of.asked ?? "")));
     if (!it.unread && !isRaw(line) && it.line && it.help === undefined && (one += 1) && sure.size !== 1 && !isRaw(it.line.trim() === line.trim() ? line : "")) {
