@@ -54,9 +54,11 @@ function madeLine(isClear = false) {
 
 // ---- all trees, by trying all ways to cut a line
 
+/** A value, with how its lists were typed. */
+const nameOf = (it) => JSON.stringify([it.value, it.digits], (_, of) => (Array.isArray(of) && of.how ? [of.how, ...of] : of));
+
 function treesOf(signs) {
   const { states, startsOf, ids, signsOfItem } = notation_(), known = new Map(), length = signs.length;
-  const nameOf = (it) => JSON.stringify([it.value, it.digits]);
   const derived = (id, begin, end) => {
     const key = `${id} ${begin} ${end}`;
     if (!known.has(key)) {
@@ -107,7 +109,7 @@ function trees() {
     if (signs.length === 0 || signs.length > 13) continue;
     tried += 1;
     const mine = treesOf(signs), { values, isMany } = parsed_(notation_(), "Line", signs);
-    const theirs = values.map((it) => JSON.stringify([it.value, it.digits]) + it.isRepair + it.isDoubt).sort();
+    const theirs = values.map((it) => nameOf(it) + it.isRepair + it.isDoubt).sort();
     if (!isMany && JSON.stringify(mine) !== JSON.stringify(theirs)) wrong.push([line, mine, theirs]);
     const it = read(line), sure = new Set(mine.filter((of) => of.includes('"line"') && /\]false(?:true|false)$/.test(of)).map((of) => JSON.parse(of.replace(/(?:true|false)+$/, ""))[0]).map((of) => of.line + JSON.stringify(of.asked ?? "")));
     if (!it.unread && !isRaw(line) && it.line && it.help === undefined && (one += 1) && sure.size !== 1 && !isRaw(it.line.trim() === line.trim() ? line : "")) {
@@ -136,7 +138,7 @@ const partitionsOf = (n, most = n) => (n === 0 ? [[]] : Array.from({ length: Mat
 const SMALL = [1, 2, 3, 4, 5, 6].flatMap((n) => partitionsOf(n));
 /** The lists of the questions: partitions that the seed chooses, each also with its digits as one number. Of few of them a few hundred texts are for two
  * questions, of more of them some ten thousand. */
-const isSmall = Number(count) <= 3000, CHOSEN = [...shuffled(SMALL).slice(0, isSmall ? 4 : 6), pick([["12"], ["13"], ["10"], ["10", "1"], ["12", "2"]])];
+const isSmall = Number(count) <= 3000, CHOSEN = [...shuffled(SMALL).slice(0, isSmall ? 3 : 6), pick([["12"], ["13"], ["10"], ["10", "1"], ["12", "2"]])];
 const KNOWN = shuffled(Array.from(new Map([...CHOSEN, ...CHOSEN.map((it) => [it.join("")])].map((it) => [it.join(" "), it])).values()));
 
 /** Texts by the questions for which they are written. */
@@ -168,7 +170,7 @@ function questions() {
   const wrong = [], kinds = { two: 0, offered: 0, one: 0, oneRuns: 0, oneOffered: 0 }, texts = shuffled(writtenTexts());
   const wanted = (question) => question.replace(/^.* of /, "").replace(/ (?:-r|in) .*$|\)$/, "");
   for (const [text, all] of texts) {
-    if (isRaw(text) || (all.size > 1 ? kinds.two >= Number(count) : random(20) > 0)) continue;
+    if (isRaw(text) || (all.size > 1 ? kinds.two >= Number(count) : kinds.one >= Number(count) / 4)) continue;
     const { line, unread } = read(text), offers = unread ? unread.offers : [];
     if (all.size > 1) {
       kinds.two += 1;
