@@ -9,10 +9,9 @@ ghost use Rattle.linear_combinations.specs.Gains.{over};
 ghost use Rattle.monk_product.specs.RowPaths.{IsPathFor};
 
 use crate::row_path::RowPath;
-use crate::row_summands::layers;
+use crate::row_summands::Layers;
 use crate::row_table::product_by_rows;
 use crate::short_monk::{ShortSum, written_out};
-use crate::short_perm::ShortPerm;
 use calc_base::SumFault;
 use coeff_rings::Int;
 use linear_combinations::Terms;
@@ -21,43 +20,30 @@ use std::alloc::Global;
 use std::cmp::Ordering;
 use transition_walk::transition_places;
 
-/// With fewer inversions of one of the factors the transition rule is used.
-const FEWEST_INVERSIONS: u16 = 6;
+/// A product by rows is likely to be faster than the transition rule with n steps if the size of its
+/// plan (`RowPlan`) is at most n³ times this number.
+const SIZE_OF_CUBE: i128 = 1_000_000;
 
-/// A product by rows takes about as long as the transition rule with n steps if its weight
-/// (`RowPlan`) is n² divided by this number.
-const SQUARE_OF_WEIGHT: usize = 24;
-
-/// With more steps of the transition rule, products are computed row by row, whatever the weight.
-const MOST_STEPS: usize = 4096;
+/// With so many steps of the transition rule, products are computed row by row, whatever the size.
+const MOST_STEPS: usize = 2048;
 
 /// How the product with the Schubert polynomial of a permutation is computed row by row.
 #[derive(Drop)]
 struct RowPlan {
     path: RowPath,
-    /// For each number of rows, from 0 on, the permutations at which the value of so many rows is
-    /// computed.
-    layers: Vec<Vec<ShortPerm>>,
-    /// The number of products of variables in all elementary polynomials that lists are multiplied
-    /// by.
-    weight: usize,
+    layers: Layers,
 }
 
 impl RowPlan {
     /// The plan for the product with the Schubert polynomial of `v`. Returns `Large` if there is
-    /// none, or if there are too many permutations.
-    fn of(alloc: Global, v: &Perm) -> Result<RowPlan, SumFault>
+    /// none, if there are too many permutations, or if its size is more than `most` (`Layers`).
+    fn of(alloc: Global, v: &Perm, most: i128) -> Result<RowPlan, SumFault>
         ensures { IfOk result (λ plan. IsPathFor v.now plan.path.letters plan.path.rows.items
             plan.path.end) }
     {
         let path = RowPath::of(alloc, v)?;
-        let mut weight = 0;
-        let layers = layers(alloc, &path.end, path.letters, &path.rows, &mut weight)?;
-        Ok(RowPlan {
-            path,
-            layers,
-            weight,
-        })
+        let layers = Layers::of(alloc, &path.end, path.letters, &path.rows, most)?;
+        Ok(RowPlan { path, layers })
     }
 }
 
@@ -72,62 +58,54 @@ pub(crate) fn product_if_fast(
     ensures { IfOk result (λ terms. (n : ℕ) → Represents (λ x. schubert_in x n)
         (as_fractions terms) (times (schubert_in u.now n) (schubert_in v.now n)) 1) }
 {
-    if u.inversions().min(v.inversions()) < FEWEST_INVERSIONS {
-        return Err(SumFault::Large);
-    }
-    let sum = product_by_plan(alloc, u, v)?;
-    Ok(written_out(alloc, sum.sorted_terms()?)?)
-}
-
-/// The product of the Schubert polynomials of two permutations, by the plan of less weight. Returns
-/// `Large` also if the transition rule is likely to be faster.
-fn product_by_plan(alloc: Global, u: &Perm, v: &Perm) -> Result<ShortSum, SumFault>
-    ensures value { IfOk result (λ sum. (k : ℕ) (φ : List ℕ → ℤ)
-        → over (λ w. pair (schubert_in w k) φ) sum
-        ≡ pair (times (schubert_in u.now k) (schubert_in v.now k)) φ) }
-{
-    let Ok(left) = RowPlan::of(alloc, u) else {
-        let right = RowPlan::of(alloc, v)?;
-        return product_of_plan(alloc, &right, u, v);
-    };
-    if let Ok(right) = RowPlan::of(alloc, v) {
-        if right.weight <= left.weight {
-            return product_of_plan(alloc, &right, u, v);
-        }
-    }
-    product_of_plan(alloc, &left, v, u)
-}
-
-/// The product of the Schubert polynomials of `u` and `v` by a plan for `v`. Returns `Large` also if
-/// the transition rule is likely to be faster.
-fn product_of_plan(alloc: Global, plan: &RowPlan, u: &Perm, v: &Perm) -> Result<ShortSum, SumFault>
-    requires { IsPathFor v.now plan.now.path.letters plan.now.path.rows.items plan.now.path.end }
-    ensures value { IfOk result (λ sum. (k : ℕ) (φ : List ℕ → ℤ)
-        → over (λ w. pair (schubert_in w k) φ) sum
-        ≡ pair (times (schubert_in u.now k) (schubert_in v.now k)) φ) }
-{
     let w = if u.inversions() < v.inversions() {
         u
     } else {
         v
     };
-    if !takes_longer(alloc, w, plan.weight)? {
-        return Err(SumFault::Large);
-    }
-    product_by_rows(alloc, &plan.path, &plan.layers, u, v)
+    let most = most_size(transition_steps(alloc, w)?);
+    let sum = product_by_plan(alloc, u, v, most)?;
+    Ok(written_out(alloc, sum.sorted_terms()?)?)
 }
 
-/// Whether the transition rule is likely to take longer than a product by rows of this weight, if it
-/// expands the Schubert polynomial of `w`.
-fn takes_longer(alloc: Global, w: &Perm, weight: usize) -> Result<bool, SumFault> {
+/// The product of the Schubert polynomials of two permutations, by the plan of less size. Returns
+/// `Large` also if the sizes of both are more than `most`.
+fn product_by_plan(alloc: Global, u: &Perm, v: &Perm, most: i128) -> Result<ShortSum, SumFault>
+    ensures value { IfOk result (λ sum. (k : ℕ) (φ : List ℕ → ℤ)
+        → over (λ w. pair (schubert_in w k) φ) sum
+        ≡ pair (times (schubert_in u.now k) (schubert_in v.now k)) φ) }
+{
+    let Ok(left) = RowPlan::of(alloc, u, most) else {
+        let right = RowPlan::of(alloc, v, most)?;
+        return product_by_rows(alloc, &right.path, &right.layers.perms, u, v);
+    };
+    if let Ok(right) = RowPlan::of(alloc, v, left.layers.size) {
+        return product_by_rows(alloc, &right.path, &right.layers.perms, u, v);
+    }
+    product_by_rows(alloc, &left.path, &left.layers.perms, v, u)
+}
+
+/// The greatest size of a plan by which a product is likely to be faster than by so many steps of
+/// the transition rule.
+fn most_size(steps: usize) -> i128 {
+    if steps >= MOST_STEPS {
+        return i128::MAX;
+    }
+    let steps = steps as i128;
+    SIZE_OF_CUBE
+        .saturating_mul(steps)
+        .saturating_mul(steps)
+        .saturating_mul(steps)
+}
+
+/// The number of steps of the transition rule that expand the Schubert polynomial of `w`; at most
+/// `MOST_STEPS`.
+fn transition_steps(alloc: Global, w: &Perm) -> Result<usize, SumFault> {
     let mut todo = Vec::new(alloc);
     todo.push(w.copy()?)?;
     for steps in 0..MOST_STEPS {
-        if steps.saturating_mul(steps) / SQUARE_OF_WEIGHT >= weight {
-            return Ok(true);
-        }
         let Some(last) = todo.pop() else {
-            return Ok(false);
+            return Ok(steps);
         };
         if let Some((r, s)) = transition_places(&last) {
             let lower = last.times_swap(r, s)?;
@@ -137,7 +115,7 @@ fn takes_longer(alloc: Global, w: &Perm, weight: usize) -> Result<bool, SumFault
             add_waiting(&mut todo, lower)?;
         }
     }
-    Ok(true)
+    Ok(MOST_STEPS)
 }
 
 /// Adds a permutation to a list in the order in which the transition rule replaces them, from the

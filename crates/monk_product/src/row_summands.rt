@@ -19,9 +19,12 @@ use coeff_rings::{Int, Ring, Scalar};
 use linear_combinations::{Label, Lin};
 use std::alloc::Global;
 
-/// The greatest number of permutations in all layers (`layers`), and in each sum that the summands
+/// The greatest number of permutations in all layers (`Layers`), and in each sum that the summands
 /// of a row are made from.
 pub(crate) const MOST_PERMUTATIONS: usize = 100_000;
+
+/// The greatest number of products that is counted for a summand.
+const MOST_PRODUCTS: i128 = 1 << 100;
 
 /// A summand of a row: `coefficient` times e_d(x_1, .., x_r), for d = `degree` and the number r of
 /// cells of the row, times the value of the rows before it at `perm`.
@@ -230,62 +233,111 @@ pub(crate) fn row_summands(
     Ok(summands)
 }
 
-/// The permutations at which the values of the first i rows are wanted, for i from 0 to the number
-/// of rows, if the value of all rows is wanted at `p`, a permutation of at most n letters: in the
-/// printed order, each once. Those for i rows include all permutations of the summands of the row
-/// i, counted from 0, at those for i + 1 rows. A row with no cells changes nothing. No clause says
-/// this: a caller has to look each permutation up.
-///
-/// Returns `Large` if there are too many permutations in all (`MOST_PERMUTATIONS`), or
-/// `row_summands` does.
-pub(crate) fn layers(
-    alloc: Global,
-    p: &ShortPerm,
-    n: usize,
-    rows: &[usize],
-    weight: &mut usize,
-) -> Result<Vec<Vec<ShortPerm>>, SumFault> {
-    let mut layers = Vec::new(alloc);
-    let mut layer = Vec::new(alloc);
-    layer.push(p.copy()?)?;
-    let mut left = MOST_PERMUTATIONS;
-    for i in (0..rows.len()).rev() {
-        let lower = layer_below(alloc, layer.as_slice(), n, i, rows[i], weight)?;
-        layers.push(layer)?;
-        layer = lower;
-        left = left.checked_sub(layer.len()).ok_or(SumFault::Large)?;
+/// The permutations at which the values of the first rows of a diagram are wanted.
+#[derive(Drop)]
+pub(crate) struct Layers {
+    /// For each number of rows, from 0 on, the permutations at which the value of so many rows is
+    /// wanted: in the printed order, each once.
+    pub(crate) perms: Vec<Vec<ShortPerm>>,
+    /// The square of the number of all summands, times the number of products of variables and
+    /// summands, one for each row, that lead from all rows to none; 2^127 - 1 if this is more.
+    pub(crate) size: i128,
+}
+
+impl Layers {
+    /// The permutations at which the values of the first i rows are wanted, for i from 0 to the number
+    /// of rows, if the value of all rows is wanted at `p`, a permutation of at most n letters. Those
+    /// for i rows include all permutations of the summands of the row i, counted from 0, at those for
+    /// i + 1 rows. A row with no cells changes nothing. No clause says this: a caller has to look each
+    /// permutation up.
+    ///
+    /// Returns `Large` if there are too many permutations in all (`MOST_PERMUTATIONS`), if their size
+    /// (`Layers`) is more than `most`, or if `row_summands` does.
+    pub(crate) fn of(
+        alloc: Global,
+        p: &ShortPerm,
+        n: usize,
+        rows: &[usize],
+        most: i128,
+    ) -> Result<Layers, SumFault> {
+        let mut perms = Vec::new(alloc);
+        let mut layer: ShortSum = Lin::new(alloc);
+        layer.add_at_label(p, Int::one())?;
+        let mut summands = 0;
+        let mut size = 0;
+        let mut left = MOST_PERMUTATIONS;
+        for i in (0..rows.len()).rev() {
+            let lower = layer_below(alloc, &layer, n, i, rows[i], &mut summands)?;
+            perms.push(perms_of(alloc, layer)?)?;
+            layer = lower;
+            left = left.checked_sub(layer.len()).ok_or(SumFault::Large)?;
+            size = size_of(&layer, summands);
+            if size > most {
+                return Err(SumFault::Large);
+            }
+        }
+        perms.push(perms_of(alloc, layer)?)?;
+        perms.reverse();
+        Ok(Layers { perms, size })
     }
-    layers.push(layer)?;
-    layers.reverse();
-    Ok(layers)
 }
 
 /// The permutations of the summands at the permutations of `layer`, of the row i, which has `cells`
-/// cells; those of `layer` if there are no cells. In the printed order, each once.
+/// cells; those of `layer` if there are no cells. The coefficient of a permutation is the number of
+/// products that lead to it, if those of `layer` are (`add_lower`).
 fn layer_below(
     alloc: Global,
-    layer: &[ShortPerm],
+    layer: &ShortSum,
     n: usize,
     i: usize,
     cells: usize,
-    weight: &mut usize,
-) -> Result<Vec<ShortPerm>, SumFault> {
-    let mut found: ShortSum = Lin::new(alloc);
-    for q in layer {
+    summands: &mut i128,
+) -> Result<ShortSum, SumFault> {
+    let mut found = Lin::new(alloc);
+    for (q, count) in layer.iter() {
         if cells == 0 {
-            found.add_at_label(q, Int::one())?;
+            found.add_at_label(q, *count)?;
         } else {
-            for summand in row_summands(alloc, q, n, i, cells)? {
-                *weight = weight.saturating_add(subsets(cells, summand.degree));
-                found.add_owned(summand.perm, Int::one())?;
-            }
+            let lower = row_summands(alloc, q, n, i, cells)?;
+            *summands = summands.saturating_add(lower.len() as i128);
+            add_lower(lower, cells, *count, &mut found)?;
         }
     }
-    let mut perms = Vec::with_capacity(alloc, found.len())?;
-    for (w, _) in found.sorted_terms()? {
+    Ok(found)
+}
+
+/// Adds to the coefficient of the permutation of each summand of a row with `cells` cells `count`
+/// times the number of products of variables in its elementary polynomial; at most `MOST_PRODUCTS`.
+fn add_lower(
+    summands: Vec<Summand>,
+    cells: usize,
+    count: Int,
+    found: &mut ShortSum,
+) -> Result<(), SumFault> {
+    for summand in summands {
+        let products = subsets(cells, summand.degree) as i128;
+        let products = count.get().saturating_mul(products).min(MOST_PRODUCTS);
+        found.add_owned(summand.perm, Int::new(products))?;
+    }
+    Ok(())
+}
+
+/// The labels of a list, in the printed order.
+fn perms_of(alloc: Global, list: ShortSum) -> Result<Vec<ShortPerm>, SumFault> {
+    let mut perms = Vec::with_capacity(alloc, list.len())?;
+    for (w, _) in list.sorted_terms()? {
         perms.push(w)?;
     }
     Ok(perms)
+}
+
+/// The size of the rows down to this layer, with so many summands (`Layers`).
+fn size_of(layer: &ShortSum, summands: i128) -> i128 {
+    let mut products: i128 = 0;
+    for (_, count) in layer.iter() {
+        products = products.saturating_add(count.get());
+    }
+    products.saturating_mul(summands.saturating_mul(summands))
 }
 
 /// The number of subsets of `degree` elements of a set of `cells` elements, if no product on the way
