@@ -1,3 +1,0 @@
-pub mod TermLists
-mod Stacks
-mod Moves
