@@ -1,0 +1,4 @@
+mod Capped
+mod RecordLists
+pub mod TermLists
+mod Stacks
