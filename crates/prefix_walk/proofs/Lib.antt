@@ -2,3 +2,4 @@ mod Capped
 mod RecordLists
 pub mod TermLists
 mod Stacks
+mod Moves

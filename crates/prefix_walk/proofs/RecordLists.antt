@@ -1,10 +1,11 @@
 -- Lists of records: their sums, and their order.
-use Rattle.std.proofs.Common.{append_assoc, append-nil, eq-eqb, not, take, true, ◌≡◌, ℕ, zero, suc, ◌+◌, ◌*◌, ◌<◌, ◌≤◌, ◌==◌, Bool, cond, List, [], ◌∷◌, ◌++◌, length, get_or, set, refl, sym, ap, ap₂, ◌∙◌, subst, arith}
+use Rattle.std.proofs.Common.{◌^◌, append_assoc, append-nil, eq-eqb, not, take, true, ◌≡◌, ℕ, zero, suc, ◌+◌, ◌*◌, ◌<◌, ◌≤◌, ◌==◌, Bool, cond, List, [], ◌∷◌, ◌++◌, length, get_or, set, refl, sym, ap, ap₂, ◌∙◌, subst, arith}
 use Rattle.std.specs.Prelude.{Option, Some, None, MatchOption, slice_get}
 use Rattle.std.specs.Option.{option_eq}
 use Rattle.std.specs.Map.{keys_of}
 use Rattle.std.specs.List.{All, sum_by}
-use Rattle.std.specs.List.Sorted.{IsNonDecreasingBy}
+use Rattle.std.specs.List.Sorted.{IsNonDecreasingBy, IsPermutation}
+use Rattle.std.proofs.lemmas.List.Sorted.{All-permutation, sum_by-IsPermutation}
 use Rattle.std.proofs.Math.Nat.{add-mul, mul-add}
 use Rattle.std.proofs.lemmas.Bool.{ne_eqb}
 use Rattle.std.proofs.lemmas.List.Sums.{sum_by-cons, sum_by-append, sum_by-set, sum_by_push, fold_more}
@@ -202,3 +203,54 @@ All_last {X} P xs ys x e h = ends xs (subst (λ (l : List X). All P l) e h)
     ends : (l : List X) → All P (l ++ x ∷ []) → P x
     ends [] g = All-head P x [] g
     ends (y ∷ l) g = ends l (All-tail P y (l ++ x ∷ []) g)
+
+-- the end of the group is reached
+pub taken_below : {S : Type 0} → (a : ℕ) (old now new : List ((ℕ × S) × ℕ)) → IsTaken a old now → new ≡ now
+    → (Rise now → All (λ r. r.0.0 < a + 1) now → All (λ r. r.0.0 < a) now) → Rise old → All (λ r. r.0.0 < a + 1) old → All (λ r. r.0.0 < a) new
+taken_below {S} a old now new taken e below rise all =
+    All-same (λ r. r.0.0 < a) new now e
+    (below (rise_front now taken.group (subst Rise taken.is rise))
+    (All_front (λ r. r.0.0 < a + 1) now taken.group (subst (λ (l : List ((ℕ × S) × ℕ)). All (λ r. r.0.0 < a + 1) l) taken.is all)))
+
+pub none_left : {S : Type 0} → (a : ℕ) (f : S → ℕ) (now new : List ((ℕ × S) × ℕ)) → new ≡ now → All (λ r. r.0.0 < a) new → weighed_at a f now ≡ 0
+none_left {S} a f now new e below =
+    ap (λ (l : List ((ℕ × S) × ℕ)). weighed_at a f l) (sym e) ∙ weighed_none a f new (All-weaker (λ r. r.0.0 < a) (λ r. r.0.0 ≡ a → ⊥) (λ r l k. absurd (omega arith)) new below)
+
+pub total_end : (total w start : ℕ) → total ≤ 2 ^ 127 → w ≡ 0 → at_most_cap (total + w) ≡ at_most_cap start → total ≡ at_most_cap start
+total_end total w start l z h = omega arith
+
+pub sum_end : (now w start : ℕ) → w ≡ 0 → at_most_cap (now + w) ≡ start → at_most_cap now ≡ start
+sum_end now w start z h = let k : now ≡ now + w = omega arith in ap at_most_cap k ∙ h
+
+pub last_within : {S : Type 0} → (state : S → Type 0) (end a : ℕ) (es : List ((ℕ × S) × ℕ)) → AreRecords state end es → IsLast a es → a < end
+last_within state end a es h last =
+    let within = (All_last (λ r. IsStep state end r.0) last.front es last.last last.is h.steps).1 in
+    omega (arith, last.entry, within)
+
+pub top_taken : {S : Type 0} → (a : ℕ) (old new : List ((ℕ × S) × ℕ)) → IsLast a old → All (λ r. r.0.0 < a) new → top_of new < top_of old
+top_taken {S} a old new last below =
+    let low = top_below a new below in
+    let high = top_last last.front last.last in
+    let same = ap (λ (l : List ((ℕ × S) × ℕ)). top_of l) last.is in
+    omega (arith, last.entry, low, high, same)
+
+pub top_within : {S : Type 0} → (state : S → Type 0) (end : ℕ) (es : List ((ℕ × S) × ℕ)) → AreRecords state end es → top_of es ≤ end
+top_within state end es h = top_below end es (All-weaker (λ r. IsStep state end r.0) (λ r. r.0.0 < end) (λ r s. s.1) es h.steps)
+
+pub records_sorted : {S : Type 0} → (state : S → Type 0) (end : ℕ) (es new : List ((ℕ × S) × ℕ)) → All (λ r. IsStep state end r.0) es → IsPermutation es new → Rise new → AreRecords state end new
+records_sorted state end es new h moved rise = record {
+  steps = All-permutation (λ r. IsStep state end r.0) es new moved h;
+  rise = rise;
+}
+
+pub weighed_sorted : {S : Type 0} → (a : ℕ) (f : S → ℕ) (es new : List ((ℕ × S) × ℕ)) → IsPermutation es new → weighed_at a f new ≡ weighed_at a f es
+weighed_sorted a f es new moved = sum_by-IsPermutation (value a f) es new moved
+
+pub steps_both : {S : Type 0} → (state : S → Type 0) (end : ℕ) (steps : List (ℕ × S)) → All (λ s. state s.1) steps → All (λ s. s.0 < end) steps → All (IsStep state end) steps
+steps_both state end steps p q = λ k d l. (p k d l, q k d l)
+
+pub first_sum : {S : Type 0} → (a : ℕ) (f : S → ℕ) (es : List ((ℕ × S) × ℕ)) (w : ℕ) → es ≡ [] → weighed_at a f es + 1 * w ≡ w
+first_sum {S} a f es w e = ap (λ (l : List ((ℕ × S) × ℕ)). weighed_at a f l + 1 * w) e ∙ once w
+  where
+    once : (x : ℕ) → 0 + 1 * x ≡ x
+    once x = omega arith

@@ -145,6 +145,13 @@ module _ (N : Type 0) where
     one_less : (i j p : ℕ) → i < j → (i + 1) * p + p ≤ (j + 1) * p
     one_less i j p h = let k = one_more i p in let g : i + 2 ≤ j + 1 = omega arith in let l = mul-le-mul_right p g in omega arith
 
+    -- the current entry of the last level does not matter
+    pub other_work : (n m : ℕ) (front : List (N × ℕ)) (x : N) (a b : ℕ) → n ≡ length front + (m + 1)
+        → work_left top bound n (front ++ (x, a) ∷ []) ≡ work_left top bound n (front ++ (x, b) ∷ [])
+    other_work n m front x a b e =
+        let k : n ≡ length front + suc m = omega arith in
+        work-append n (suc m) front ((x, a) ∷ []) k ∙ sym (work-append n (suc m) front ((x, b) ∷ []) k)
+
     pub pop_work : (n m : ℕ) (front : List (N × ℕ)) (x : N) (a : ℕ) → n ≡ length front + (m + 1)
         → work_left top bound n front < work_left top bound n (front ++ (x, a) ∷ [])
     pop_work n m front x a e =

@@ -34,11 +34,11 @@ terms-none bound (suc n) f h =
 -- parts from `end` on that are empty can be left out
 from_top-skip : (g : ℕ → List (List ℕ × ℕ)) (end left : ℕ) → end ≤ left → ((a : ℕ) → end ≤ a → g a ≡ []) → from_top g left ≡ from_top g end
 from_top-skip g end zero le h = let e : zero ≡ end = omega arith in ap (from_top g) e
-from_top-skip g end (suc left) le h = split (cases_lt left end)
+from_top-skip g end (suc left) le h = split (cases_lt left end) (λ l. from_top-skip g end left l h)
   where
-    split : (left < end) ⊎ (end ≤ left) → from_top g (suc left) ≡ from_top g end
-    split (inl l) = let e : suc left ≡ end = omega arith in ap (from_top g) e
-    split (inr l) = ap (λ (x : List (List ℕ × ℕ)). x ++ from_top g left) (h left l) ∙ from_top-skip g end left l h
+    split : (left < end) ⊎ (end ≤ left) → (end ≤ left → from_top g left ≡ from_top g end) → from_top g (suc left) ≡ from_top g end
+    split (inl l) rec = let e : suc left ≡ end = omega arith in ap (from_top g) e
+    split (inr l) rec = ap (λ (x : List (List ℕ × ℕ)). x ++ from_top g left) (h left l) ∙ rec l
 
 from_top-take : (p q : ℕ → List (List ℕ × ℕ)) (a bound : ℕ) → a < bound → ((b : ℕ) → suc a ≤ b → p b ≡ []) → ((b : ℕ) → a ≤ b → q b ≡ []) → ((b : ℕ) → b < a → p b ≡ q b)
     → from_top p bound ≡ p a ++ from_top q bound
