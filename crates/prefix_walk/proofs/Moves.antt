@@ -5,7 +5,7 @@ use Rattle.std.specs.Option.{option_to_list, option_map}
 use Rattle.std.specs.List.{All}
 use Rattle.std.specs.List.Sorted.{IsPermutation}
 use Rattle.std.proofs.lemmas.List.Elements.{All-weaker}
-use Rattle.prefix_walk.specs.Terms.{with_entry, lone_term}
+use Rattle.prefix_walk.specs.Terms.{with_entry, lone_term, terms_below}
 use Rattle.prefix_walk.specs.Levels.{at_most_cap, weighed_at, part_at, terms_of, rest_at, entries_of, Rise, IsStep, AreRecords, IsLast, IsTaken, AreSound, top_of, work_left}
 use Rattle.prefix_walk.proofs.RecordLists.{records_taken, last_within, top_taken, top_within, records_sorted, weighed_sorted, weighed_same, greatest_last}
 use Rattle.prefix_walk.proofs.TermLists.{terms_taken, terms_next}
@@ -85,3 +85,16 @@ module _ (S : Type 0) (state : ℕ → S → Type 0) (ways : ℕ → S → List 
             (terms_next S ways end m (λ label. weighed_at a (λ s. ways (suc m) s label) x.items) y.items
             (λ b label e. ap at_most_cap (weighed_sorted b (λ s. ways m s label) next.items y.items moved) ∙ adds b label e
             ∙ ap (λ (n : ℕ). at_most_cap (weighed_at a (λ s. ways n s (b ∷ label)) x.items)) one)))
+
+-- the terms of the first level
+pub first_rest : (S : Type 0) (ways : ℕ → S → List ℕ → ℕ) (end len a : ℕ) (start : S) (x : Records S) → 0 < len
+    → ((b : ℕ) (label : List ℕ) → length label ≡ len - 1
+    → at_most_cap (weighed_at b (λ s. ways (len - 1) s label) x.items) ≡ at_most_cap (ways (len - 1 + 1) start (b ∷ label)))
+    → rest_at (level_terms ways end) len ((x, a) ∷ []) ≡ terms_below end len (λ label. at_most_cap (ways len start label))
+first_rest S ways end len a start x some h =
+    let k : len ≡ suc (len - 1) = omega (arith, some) in
+    let i : len - 1 + 1 ≡ len = omega (arith, some) in
+    ap (λ (n : ℕ). rest_at (level_terms ways end) n ((x, a) ∷ [])) k
+    ∙ sym (terms_next S ways end (len - 1) (ways len start) x.items
+    (λ b label e. h b label e ∙ ap (λ (n : ℕ). at_most_cap (ways n start (b ∷ label))) i))
+    ∙ ap (λ (n : ℕ). terms_below end n (λ label. at_most_cap (ways len start label))) (sym k)

@@ -112,8 +112,8 @@ fn take_steps<S: Copy, P: Prefixes<S>>(
         ≡ at_most_cap (weighed_at entry (λ s. P.ways rule.now (after + 1) s (a ∷ label))
         records.old.items)) }
 {
-    while let Some(((_, state), count)) = records::pop_at(records, entry) {
-        add_steps(rule, after, &state, count, next, scratch)?;
+    while let Some(record) = records::pop_at(records, entry) {
+        add_steps(rule, after, &record.0.1, record.1, next, scratch)?;
     }
     Ok(())
 }

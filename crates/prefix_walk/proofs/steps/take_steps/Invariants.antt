@@ -3,8 +3,8 @@ use Rattle.std.specs.List.{All}
 use Rattle.prefix_walk.specs.Levels.{at_most_cap, weighed_at, IsStep, IsTaken}
 use Rattle.prefix_walk.proofs.steps.take_steps.Given as goal
 
-abbrev pub invariant-loop-state : goal.invariant-loop-state
-invariant-loop-state g l = record {
+abbrev pub invariant-loop-record : goal.invariant-loop-record
+invariant-loop-record g l = record {
   taken : IsTaken l.entry l.initial.records.items l.records.items;
   steps : All (λ r. IsStep (g.P.Prefixes.is_state l.rule l.after) (g.P.Prefixes.end l.rule) r.0) l.next.items;
   adds : (a : ℕ) (label : List ℕ) → length label ≡ l.after
@@ -13,5 +13,5 @@ invariant-loop-state g l = record {
       ≡ at_most_cap (weighed_at l.entry (λ s. g.P.Prefixes.ways l.rule (l.after + 1) s (a ∷ label)) l.initial.records.items);
 }
 
-abbrev pub decreases-loop-state : goal.decreases-loop-state
-decreases-loop-state g l = length l.records.items
+abbrev pub decreases-loop-record : goal.decreases-loop-record
+decreases-loop-record g l = length l.records.items
