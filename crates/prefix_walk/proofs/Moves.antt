@@ -1,12 +1,12 @@
 -- The moves of a walk: a level is left, a group of records ends a label, a group of records makes a further level.
-use Rattle.std.proofs.Common.{◌≡◌, ℕ, zero, suc, ◌+◌, ◌-◌, ◌<◌, ◌≤◌, List, [], ◌∷◌, ◌++◌, length, refl, sym, ap, ◌∙◌, subst, arith, Vec, Global}
+use Rattle.std.proofs.Common.{◌≡◌, ℕ, suc, ◌+◌, ◌-◌, ◌<◌, List, [], ◌∷◌, ◌++◌, length, refl, sym, ap, ◌∙◌, subst, arith, Vec, Global}
 use Rattle.std.specs.Prelude.{Option, MatchOption}
 use Rattle.std.specs.Option.{option_to_list, option_map}
 use Rattle.std.specs.List.{All}
 use Rattle.std.specs.List.Sorted.{IsPermutation}
 use Rattle.std.proofs.lemmas.List.Elements.{All-weaker}
 use Rattle.prefix_walk.specs.Terms.{with_entry, lone_term, terms_below}
-use Rattle.prefix_walk.specs.Levels.{at_most_cap, weighed_at, part_at, terms_of, rest_at, entries_of, Rise, IsStep, AreRecords, IsLast, IsTaken, AreSound, top_of, work_left}
+use Rattle.prefix_walk.specs.Levels.{at_most_cap, weighed_at, terms_of, rest_at, entries_of, Rise, IsStep, AreRecords, IsLast, IsTaken, AreSound, top_of, work_left}
 use Rattle.prefix_walk.proofs.RecordLists.{records_taken, last_within, top_taken, top_within, records_sorted, weighed_sorted, weighed_same, greatest_last}
 use Rattle.prefix_walk.proofs.TermLists.{terms_taken, terms_next}
 use Rattle.prefix_walk.proofs.Stacks.{last_rest, deeper_rest, last_node, taken_sound, deeper_sound, taken_work, deeper_work}

@@ -3,7 +3,7 @@ use Rattle.std.proofs.Common.{◌^◌, append_assoc, append-nil, eq-eqb, not, ta
 use Rattle.std.specs.Prelude.{Option, Some, None, MatchOption, slice_get}
 use Rattle.std.specs.Option.{option_eq}
 use Rattle.std.specs.Map.{keys_of}
-use Rattle.std.specs.List.{All, sum_by}
+use Rattle.std.specs.List.{All}
 use Rattle.std.specs.List.Sorted.{IsNonDecreasingBy, IsPermutation}
 use Rattle.std.proofs.lemmas.List.Sorted.{All-permutation, sum_by-IsPermutation}
 use Rattle.std.proofs.Math.Nat.{add-mul, mul-add}
@@ -166,10 +166,10 @@ pub steps_more : {S : Type 0} → (a : ℕ) (f : S → ℕ) (steps : List (ℕ �
     → at_most_cap now ≡ at_most_cap (start + count * sum_at a f (take (i + 1) steps))
 steps_more {S} a f steps i d now mid start count l s h g =
     let more : sum_at a f (take (i + 1) steps) ≡ sum_at a f (take i steps) + if_entry a f d =
-        fold_more (λ (x : ℕ) (y : ℕ × S). x + if_entry a f y) 0 steps i d l ∙ ap (λ (y : ℕ × S). sum_at a f (take i steps) + if_entry a f y) (sym s) in
+    fold_more (λ (x : ℕ) (y : ℕ × S). x + if_entry a f y) 0 steps i d l ∙ ap (λ (y : ℕ × S). sum_at a f (take i steps) + if_entry a f y) (sym s) in
     let both = mul-add count (sum_at a f (take i steps)) (if_entry a f d) in
     let whole : start + count * sum_at a f (take i steps) + count * if_entry a f d ≡ start + count * sum_at a f (take (i + 1) steps) =
-        plus start _ _ _ (sym both ∙ ap (λ (x : ℕ). count * x) (sym more)) in
+    plus start _ _ _ (sym both ∙ ap (λ (x : ℕ). count * x) (sym more)) in
     h ∙ cap_sum mid (start + count * sum_at a f (take i steps)) (count * if_entry a f d) g ∙ ap at_most_cap whole
   where
     plus : (x y z w : ℕ) → y + z ≡ w → x + y + z ≡ x + w

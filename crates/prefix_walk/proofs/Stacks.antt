@@ -2,8 +2,7 @@
 use Rattle.std.proofs.Common.{◌≡◌, ℕ, zero, suc, ◌+◌, ◌*◌, ◌^◌, ◌<◌, ◌≤◌, List, [], ◌∷◌, ◌++◌, length, refl, sym, ap, ◌∙◌, subst, arith, append_assoc, append-nil}
 use Rattle.std.specs.Prelude.{Option, Some, None, MatchOption}
 use Rattle.std.specs.Option.{option_to_list, option_map}
-use Rattle.std.proofs.lemmas.Bool.{ne_eqb}
-use Rattle.std.proofs.Math.Nat.{one-le-pow, pow-succ', mul-le-mul_right, suc-mul, add-mul}
+use Rattle.std.proofs.Math.Nat.{one-le-pow, pow-succ', mul-le-mul_right, add-mul}
 use Rattle.prefix_walk.specs.Terms.{with_entry, lone_term}
 use Rattle.prefix_walk.specs.Levels.{rest_at, entries_of, AreSound, work_left}
 use Rattle.prefix_walk.proofs.TermLists.{with_entry-append, lone}

@@ -21,12 +21,7 @@ pub trait Prefixes<S: Copy> {
     /// Lists the steps of a state, after which `after` entries are to come: each entry that can come
     /// next, with the state that it leads to, in any order. An entry occurs as often as there are
     /// such states.
-    fn steps(
-        &self,
-        after: usize,
-        state: &S,
-        steps: &mut Vec<(u16, S)>,
-    ) -> Result<(), NoMemory>
+    fn steps(&self, after: usize, state: &S, steps: &mut Vec<(u16, S)>) -> Result<(), NoMemory>
         requires state { is_state self.now (after + 1) state.now }
         requires fresh { steps.old.items ≡ [] }
         ensures states { OnOk result

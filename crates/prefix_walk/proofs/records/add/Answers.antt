@@ -1,4 +1,3 @@
-use Rattle.std.proofs.Common.{sym}
 use Rattle.std.proofs.lemmas.List.Elements.{All-same, All-push}
 use Rattle.prefix_walk.specs.Levels.{IsStep}
 use Rattle.prefix_walk.proofs.RecordLists.{steps_kept}

@@ -1,5 +1,3 @@
-use Rattle.std.proofs.Common.{sym, ap, ◌∙◌}
-use Rattle.std.proofs.Common.{get_or}
 use Rattle.prefix_walk.proofs.RecordLists.{keys-set, joined_at, read_count}
 use Rattle.prefix_walk.proofs.records.add_at.Goals as goal
 

@@ -1,4 +1,4 @@
-use Rattle.std.proofs.Common.{◌≡◌, List, [], subst}
+use Rattle.std.proofs.Common.{◌≡◌, [], subst}
 use Rattle.std.specs.Prelude.{MatchOption}
 use Rattle.prefix_walk.specs.Levels.{IsLast}
 use Rattle.prefix_walk.proofs.RecordLists.{below_last, not_last}

@@ -1,4 +1,4 @@
-use Rattle.std.proofs.Common.{◌≡◌, ℕ, ◌+◌, ◌-◌, ◌<◌, List, [], ◌∷◌, ◌++◌, length, arith, sym, ap, ◌∙◌, subst}
+use Rattle.std.proofs.Common.{◌≡◌, ℕ, ◌+◌, ◌-◌, ◌<◌, [], ◌∷◌, ◌++◌, length, arith, sym, ap, ◌∙◌, subst}
 use Rattle.std.specs.Option.{option_to_list, option_map}
 use Rattle.prefix_walk.specs.Levels.{rest_at, entries_of, AreRecords, AreSound, work_left}
 use Rattle.prefix_walk.proofs.Moves.{level_terms, is_level, level_top, here, greatest, leaf_sound, leaf_less, leaf_rest, deeper_is_sound, deeper_less, deeper_is_rest}

@@ -28,7 +28,7 @@ returns-clause-below g c =
 pub returns-clause-adds : goal.returns-clause-adds
 returns-clause-adds g c = λ a label e.
     let below = taken_below c.args.entry c.args.records.now.items c.loop-record.records.items c.pop_at.new.records.items c.loop-record.invariant.taken (c.in_default.ensures.same refl)
-        (c.in_default.ensures.below refl) c.requires.sound.rise c.requires.greatest in
+    (c.in_default.ensures.below refl) c.requires.sound.rise c.requires.greatest in
     let f : g.row.S.Denot → ℕ = λ s. g.P.Prefixes.ways c.args.rule.now (c.args.after + 1) s (a ∷ label) in
     sum_end (weighed_at a (λ s. g.P.Prefixes.ways c.args.rule.now c.args.after s label) c.loop-record.next.items) (weighed_at c.args.entry f c.loop-record.records.items)
     (at_most_cap (weighed_at c.args.entry f c.args.records.now.items))

@@ -1,4 +1,4 @@
-use Rattle.std.proofs.Common.{◌≡◌, ℕ, ◌+◌, ◌^◌, ◌≤◌, length}
+use Rattle.std.proofs.Common.{◌≡◌, ◌+◌, ◌^◌, ◌≤◌, length}
 use Rattle.prefix_walk.specs.Levels.{at_most_cap, weighed_at, IsTaken}
 use Rattle.prefix_walk.proofs.steps.take_total.Given as goal
 
