@@ -1,3 +1,5 @@
+mod Capped
+mod RecordLists
 pub mod TermLists
 mod Stacks
 mod Moves

@@ -1,4 +1,5 @@
--- The meaning of walks over the prefixes of labels: terms in order, and levels.
+-- The meaning of walks over the prefixes of labels: terms in order, steps, and levels.
 pub mod Terms
+pub mod Steps
 pub mod Levels
 pub mod Walking

@@ -4,11 +4,15 @@
 //! What is proved:
 //!
 //! For every rule (`Prefixes`) the walk lists exactly the labels with a positive count, each once,
-//! in decreasing lexicographic order, each with its count, capped at 2^127. A walk needs memory
-//! only for the nodes of one label.
+//! in decreasing lexicographic order, each with its count, capped at 2^127. The count of a label is
+//! the number of ways to the end through the states of the rule; equal states are counted together.
+//! A walk needs memory only for the states of one label's prefixes, and it takes none once each of
+//! its lists has been as long as it will be.
 #![tactic(auto)]
 
+mod places;
 mod prefixes;
+mod records;
 mod steps;
 mod walk;
 
