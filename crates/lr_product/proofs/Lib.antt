@@ -33,3 +33,4 @@ mod RangeSums
 mod LastRow
 mod LockStep
 mod Windows
+mod LatticeFilling

@@ -1,0 +1,112 @@
+//! The product of two Schur polynomials by the rows of the labels ν: lattice tableaux of ν/λ with
+//! the content μ, built row by row, from the first row on.
+ghost use Rattle.std.specs.Prelude.{◌≡◌, ℕ, ◌+◌, ◌-◌, ◌<◌, ◌≤◌, ◌==◌, List, [], take, drop, get_or};
+ghost use Rattle.lr_product.specs.LatticeRows.{row_ways, row_room, AreBounds};
+
+use crate::lattice_row::{LatticeState, MOST_LETTERS, Row, fill};
+use calc_base::NoMemory;
+use prefix_walk::Prefixes;
+
+/// The rule by which the rows of ν are found one by one.
+#[derive(Drop)]
+pub(crate) struct LatticeRows {
+    /// The number n of letters, from 2 to 8.
+    letters: usize,
+    /// The number of rows of ν, zeros at the end included.
+    rows: usize,
+    /// The content μ of the tableaux, followed by zeros.
+    content: [u8; MOST_LETTERS],
+    /// The inner shape λ.
+    inner: Vec<u8>,
+}
+
+impl LatticeRows {
+    /// The length of the row λ of the inner shape at an index, counted from 0.
+    fn outside(&self, index: usize) -> u16
+        ensures value { result ≡ get_or self.now.inner.items index 0 }
+        ensures small { result < 256 }
+    {
+        match self.inner.get(index) {
+            Some(length) => u16::from(*length),
+            None => 0,
+        }
+    }
+
+    /// The row that is to be added to the state, if `after` more rows are to come.
+    fn row(&self, after: usize, state: &LatticeState) -> Row {
+        let mut row = Row {
+            letters: self.letters,
+            is_last: after == 0,
+            outside: self.outside(self.rows - (after + 1)),
+            content: self.content,
+            start: *state,
+            room: [0; MOST_LETTERS],
+            least: [0; MOST_LETTERS + 1],
+            greatest: [0; MOST_LETTERS + 1],
+        };
+        set_bounds(&mut row);
+        row
+    }
+}
+
+fn set_bounds(row: &mut Row) {
+    row.least[0] = row.outside;
+    row.greatest[0] = row.outside;
+    for at in 0..row.letters {
+        let missing = row.content[at].saturating_sub(row.start.content[at]);
+        let room = room_at(row, at);
+        row.room[at] = room;
+        row.least[at + 1] = row.least[at].max(u16::from(missing));
+        row.greatest[at + 1] = (row.greatest[at] + room).min(u16::from(
+            row.start.ends[row.letters - 1 - at],
+        ));
+    }
+}
+
+/// The greatest number of letters `at` + 1 in the row.
+fn room_at(row: &Row, at: usize) -> u16 {
+    let missing = row.content[at].saturating_sub(row.start.content[at]);
+    if at == 0 {
+        return u16::from(missing);
+    }
+    u16::from(missing.min(row.start.content[at - 1].saturating_sub(row.start.content[at])))
+}
+
+impl Prefixes<LatticeState> for LatticeRows {
+    ghost use Rattle.std.specs.Prelude.{◌≡◌, ℕ, ◌-◌, ◌≤◌, List, take, drop};
+    ghost use Rattle.lr_product.specs.LatticeRows.{row_ways};
+
+    ghost is_state = { λ rule after s. (after ≤ rule.rows)
+        × (after ≡ 0 → take rule.letters s.content ≡ take rule.letters rule.content) };
+
+    ghost ways = { λ rule after s label. row_ways rule.letters rule.content
+        (drop (rule.rows - after) rule.inner.items) label s.content s.ends };
+
+    ghost end = { λ rule. 256 };
+
+    fn steps(
+        &self,
+        after: usize,
+        state: &LatticeState,
+        steps: &mut Vec<(u16, LatticeState)>,
+    ) -> Result<(), NoMemory> {
+        let row = self.row(after, state);
+        for entry in row.least[row.letters]..row.greatest[row.letters] + 1 {
+            fill(&row, entry, steps, row.start, row.letters, entry)?;
+        }
+        Ok(())
+    }
+
+    fn place(&self, entry: u16, state: &LatticeState) -> u64 {
+        let content = u64::from_le_bytes(state.content);
+        let ends = u64::from_le_bytes(state.ends);
+        (content.wrapping_mul(0x9E37_79B9_7F4A_7C15) ^ ends).wrapping_mul(0xFF51_AFD7_ED55_8CCD)
+            ^ u64::from(entry)
+    }
+
+    fn is_same(&self, one: &LatticeState, other: &LatticeState) -> bool {
+        one.content == other.content && one.ends == other.ends
+    }
+
+    ghost ended = { λ s x state. state };
+}
