@@ -34,3 +34,5 @@ mod LastRow
 mod LockStep
 mod Windows
 mod LatticeFilling
+mod LatticeBounds
+mod LatticeLaws

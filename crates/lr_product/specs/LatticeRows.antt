@@ -34,12 +34,12 @@ greatest_end n outside μ c ends zero = outside
 greatest_end n outside μ c ends (suc t) =
     min (get_or ends (n - suc t) 0) (greatest_end n outside μ c ends t + row_room μ c t)
 
--- these bounds for all letters, in three lists; numbers raised by `room` are less than 256
-pub record AreBounds (n outside : ℕ) (μ c ends room least greatest : List ℕ) : Type 0 where
-  pub room_is : (t : ℕ) → t < n → get_or room t 0 ≡ row_room μ c t
-  pub least_is : (t : ℕ) → t ≤ n → get_or least t 0 ≡ least_end outside μ c t
-  pub greatest_is : (t : ℕ) → t ≤ n → get_or greatest t 0 ≡ greatest_end n outside μ c ends t
-  pub fits : (t : ℕ) → t < n → get_or c t 0 + get_or room t 0 < 256
+-- these bounds for the letters up to m, of n letters, in three lists; the numbers of c, raised by those of `room`, are less than 256
+pub record AreBounds (n m outside : ℕ) (μ c ends room least greatest : List ℕ) : Type 0 where
+  pub room_is : (t : ℕ) → t < m → get_or room t 0 ≡ row_room μ c t
+  pub least_is : (t : ℕ) → t ≤ m → get_or least t 0 ≡ least_end outside μ c t
+  pub greatest_is : (t : ℕ) → t ≤ m → get_or greatest t 0 ≡ greatest_end n outside μ c ends t
+  pub fits : (t : ℕ) → t < m → get_or c t 0 + get_or room t 0 < 256
 
 -- two lists have the same first t numbers
 pub record AgreeBelow (t : ℕ) (s c : List ℕ) : Type 0 where
@@ -57,3 +57,10 @@ pub record CountsEndings (n : ℕ) (is_last : Bool) (μ : List ℕ) (f : List �
 pub record IsStep (n : ℕ) (is_last : Bool) (μ : List ℕ) (entry : ℕ) (content : List ℕ) : Type 0 where
   pub below : entry < 256
   pub complete : is_last ≡ true → take n content ≡ take n μ
+
+-- the numbers of letters and rows are in range, and if no row is to come, the first n numbers of `content` are those of μ
+pub record IsLatticeState (n rows after : ℕ) (μ content : List ℕ) : Type 0 where
+  pub some : 2 ≤ n
+  pub few : n ≤ 8
+  pub left : after ≤ rows
+  pub complete : after ≡ 0 → take n content ≡ take n μ

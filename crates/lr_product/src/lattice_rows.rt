@@ -3,7 +3,7 @@
 ghost use Rattle.std.specs.Prelude.{◌≡◌, ℕ, ◌+◌, ◌-◌, ◌<◌, ◌≤◌, ◌==◌, List, [], take, drop, get_or};
 ghost use Rattle.lr_product.specs.LatticeRows.{row_ways, row_room, AreBounds};
 
-use crate::lattice_row::{LatticeState, MOST_LETTERS, Row, fill};
+use crate::lattice_row::{LatticeState, MOST_LETTERS, Row, add_rows, bounds_of};
 use calc_base::NoMemory;
 use prefix_walk::Prefixes;
 
@@ -31,45 +31,6 @@ impl LatticeRows {
             None => 0,
         }
     }
-
-    /// The row that is to be added to the state, if `after` more rows are to come.
-    fn row(&self, after: usize, state: &LatticeState) -> Row {
-        let mut row = Row {
-            letters: self.letters,
-            is_last: after == 0,
-            outside: self.outside(self.rows - (after + 1)),
-            content: self.content,
-            start: *state,
-            room: [0; MOST_LETTERS],
-            least: [0; MOST_LETTERS + 1],
-            greatest: [0; MOST_LETTERS + 1],
-        };
-        set_bounds(&mut row);
-        row
-    }
-}
-
-fn set_bounds(row: &mut Row) {
-    row.least[0] = row.outside;
-    row.greatest[0] = row.outside;
-    for at in 0..row.letters {
-        let missing = row.content[at].saturating_sub(row.start.content[at]);
-        let room = room_at(row, at);
-        row.room[at] = room;
-        row.least[at + 1] = row.least[at].max(u16::from(missing));
-        row.greatest[at + 1] = (row.greatest[at] + room).min(u16::from(
-            row.start.ends[row.letters - 1 - at],
-        ));
-    }
-}
-
-/// The greatest number of letters `at` + 1 in the row.
-fn room_at(row: &Row, at: usize) -> u16 {
-    let missing = row.content[at].saturating_sub(row.start.content[at]);
-    if at == 0 {
-        return u16::from(missing);
-    }
-    u16::from(missing.min(row.start.content[at - 1].saturating_sub(row.start.content[at])))
 }
 
 impl Prefixes<LatticeState> for LatticeRows {
@@ -90,11 +51,16 @@ impl Prefixes<LatticeState> for LatticeRows {
         state: &LatticeState,
         steps: &mut Vec<(u16, LatticeState)>,
     ) -> Result<(), NoMemory> {
-        let row = self.row(after, state);
-        for entry in row.least[row.letters]..row.greatest[row.letters] + 1 {
-            fill(&row, entry, steps, row.start, row.letters, entry)?;
-        }
-        Ok(())
+        let outside = self.outside(self.rows - (after + 1));
+        let row = Row {
+            letters: self.letters,
+            is_last: after == 0,
+            outside,
+            content: self.content,
+            start: *state,
+            bounds: bounds_of(self.letters, outside, self.content, *state),
+        };
+        add_rows(&row, steps)
     }
 
     fn place(&self, entry: u16, state: &LatticeState) -> u64 {
