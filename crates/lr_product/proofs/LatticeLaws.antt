@@ -19,10 +19,10 @@ use Rattle.lr_product.proofs.LatticeBounds.{ends_outside}
 -- ---- the last row
 
 fills-other : (μ ν right : List ℕ) → (ν ≡ μ → ⊥) → fills μ ν right ≡ 0
-fills-other μ ν right no = by (pointwise nat_eq ν μ) refl
+fills-other μ ν right differ = by (pointwise nat_eq ν μ) refl
   where
     by : (b : Bool) → pointwise nat_eq ν μ ≡ b → fills μ ν right ≡ 0
-    by true e = absurd (no ((bytes_eq-Decides ν μ).0 e))
+    by true e = absurd (differ ((bytes_eq-Decides ν μ).0 e))
     by false e = ap (λ t. cond t 1 0) e
 
 pub fills-itself : (μ right : List ℕ) → fills μ μ right ≡ 1
@@ -36,7 +36,7 @@ fills-counts : (n : ℕ) (is_last : Bool) (μ : List ℕ) → CountsEndings n is
 fills-counts n is_last μ = record {
   within = λ ν right h. fills-other μ ν right (λ e. both_ways (pass_by_place nat_le ν μ) h (ap (λ l. pass_by_place nat_le l μ) e ∙ pass-itself μ));
   reaches = λ ν ends j l w b q. fills-other μ ν ends (λ e. let s = ap (λ v. get_or v j 0) e in absurd (omega arith));
-  full = λ last ν ends no. fills-other μ ν ends no;
+  full = λ last ν ends differ. fills-other μ ν ends differ;
 }
 
 -- f does not depend on the last row, so this row need not be kept
@@ -97,5 +97,18 @@ ways-counts n (a ∷ label) inner μ some full =
       reaches = λ ν ends j l m h q.
           over-first n a label inner μ ν ends (omega arith)
           ∙ row-short n (length label == 0) μ (over_rows n label (drop 1 inner) (fills μ)) rest some full (part inner 1) a ν ends j l m h q;
-      full = λ last ν ends no. absurd (let e = eqb-true (length (a ∷ label)) 0 last in omega arith);
+      full = λ last ν ends differ. absurd (let e = eqb-true (length (a ∷ label)) 0 last in omega arith);
     }
+
+pub first-part : (i : ℕ) (l : List ℕ) → part (drop i l) 1 ≡ get_or l i 0
+first-part zero [] = refl
+first-part zero (a ∷ l) = refl
+first-part (suc i) [] = refl
+first-part (suc i) (a ∷ l) = first-part i l
+
+-- the rows of a label, of which the first has `out` places outside the shape
+pub first-row : (n a i out after : ℕ) (label inner inner' μ ν above : List ℕ) → n ≤ length ν → out ≡ get_or inner i 0 → drop 1 (drop i inner) ≡ inner'
+    → over_rows n (a ∷ label) (drop i inner) (fills μ) ν above ≡ next_row n true out a (over_rows n label inner' (fills μ)) ν above
+first-row n a i out after label inner inner' μ ν above l e d =
+    over-first n a label (drop i inner) μ ν above l
+    ∙ ap₂ (λ o v. next_row n true o a (over_rows n label v (fills μ)) ν above) (first-part i inner ∙ sym e) d

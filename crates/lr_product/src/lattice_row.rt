@@ -59,8 +59,9 @@ pub(crate) fn bounds_of(
 ) -> Bounds
     requires letters { letters ≤ 8 }
     requires short { outside < 256 }
-    ensures { AreBounds letters letters outside (take letters content) start.content
+    ensures bounds { AreBounds letters letters outside (take letters content) start.content
         (take letters start.ends) result.room result.least result.greatest }
+    ensures short { slice_index result.greatest letters < 256 }
 {
     let mut room = [0u16; MOST_LETTERS];
     let mut least = [outside; MOST_LETTERS + 1];

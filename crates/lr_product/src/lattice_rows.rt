@@ -1,7 +1,6 @@
 //! The product of two Schur polynomials by the rows of the labels ν: lattice tableaux of ν/λ with
 //! the content μ, built row by row, from the first row on.
-ghost use Rattle.std.specs.Prelude.{◌≡◌, ℕ, ◌+◌, ◌-◌, ◌<◌, ◌≤◌, ◌==◌, List, [], take, drop, get_or};
-ghost use Rattle.lr_product.specs.LatticeRows.{row_ways, row_room, AreBounds};
+ghost use Rattle.std.specs.Prelude.{◌≡◌, ◌<◌, get_or};
 
 use crate::lattice_row::{LatticeState, MOST_LETTERS, Row, add_rows, bounds_of};
 use calc_base::NoMemory;
@@ -34,11 +33,13 @@ impl LatticeRows {
 }
 
 impl Prefixes<LatticeState> for LatticeRows {
-    ghost use Rattle.std.specs.Prelude.{◌≡◌, ℕ, ◌-◌, ◌≤◌, List, take, drop};
-    ghost use Rattle.lr_product.specs.LatticeRows.{row_ways};
+    ghost use Rattle.std.specs.Prelude.{ℕ, ◌-◌, List, take, drop, cond, refl};
+    ghost use Rattle.std.proofs.Common.{ap};
+    ghost use Rattle.std.proofs.lemmas.Slice.Eq.{bytes_eq-Decides};
+    ghost use Rattle.lr_product.specs.LatticeRows.{row_ways, IsLatticeState};
 
-    ghost is_state = { λ rule after s. (after ≤ rule.rows)
-        × (after ≡ 0 → take rule.letters s.content ≡ take rule.letters rule.content) };
+    ghost is_state = { λ rule after s. IsLatticeState rule.letters rule.rows after rule.content
+        s.content };
 
     ghost ways = { λ rule after s label. row_ways rule.letters rule.content
         (drop (rule.rows - after) rule.inner.items) label s.content s.ends };
@@ -60,7 +61,8 @@ impl Prefixes<LatticeState> for LatticeRows {
             start: *state,
             bounds: bounds_of(self.letters, outside, self.content, *state),
         };
-        add_rows(&row, steps)
+        add_rows(&row, steps)?;
+        Ok(())
     }
 
     fn place(&self, entry: u16, state: &LatticeState) -> u64 {
@@ -74,5 +76,7 @@ impl Prefixes<LatticeState> for LatticeRows {
         one.content == other.content && one.ends == other.ends
     }
 
-    ghost ended = { λ s x state. state };
+    ghost ended = { λ s x state. ap (λ t. cond t 1 0)
+        ((bytes_eq-Decides (take s.letters x.content) (take s.letters s.content)).1
+        (state.complete refl)) };
 }
