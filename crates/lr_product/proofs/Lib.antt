@@ -36,3 +36,4 @@ mod Windows
 mod LatticeFilling
 mod LatticeBounds
 mod LatticeLaws
+mod LatticeStarts

@@ -1,6 +1,9 @@
 //! The product of two Schur polynomials by the rows of the labels ν: lattice tableaux of ν/λ with
 //! the content μ, built row by row, from the first row on.
-ghost use Rattle.std.specs.Prelude.{◌≡◌, ◌<◌, get_or};
+ghost use Rattle.std.specs.Prelude.{◌≡◌, ℕ, ◌+◌, ◌<◌, ◌≤◌, List, [], ◌∷◌, get_or, take, replicate};
+ghost use Rattle.sym_model.specs.Partition.{part};
+ghost use Rattle.lr_product.specs.RowExtension.{over_rows};
+ghost use Rattle.lr_product.specs.LatticeRows.{fills, row_ways};
 
 use crate::lattice_row::{LatticeState, MOST_LETTERS, Row, add_rows, bounds_of};
 use calc_base::NoMemory;
@@ -20,6 +23,23 @@ pub(crate) struct LatticeRows {
 }
 
 impl LatticeRows {
+    /// The state before the first row. The row above it is so long that it restricts no letter.
+    pub(crate) fn start(&self) -> LatticeState
+        ensures content { result.content ≡ replicate 8 0 }
+        ensures ends { result.ends ≡ replicate 8 255 }
+        ensures ways { (a : ℕ) (label : List ℕ) → 2 ≤ self.now.letters → self.now.letters ≤ 8
+            → part self.now.inner.items 1 + get_or (take self.now.letters self.now.content) 0 0 ≤ 255
+            → row_ways self.now.letters self.now.content self.now.inner.items (a ∷ label)
+            result.content result.ends
+            ≡ over_rows self.now.letters (a ∷ label) self.now.inner.items
+            (fills (take self.now.letters self.now.content)) (replicate self.now.letters 0) [] }
+    {
+        LatticeState {
+            content: [0; MOST_LETTERS],
+            ends: [255; MOST_LETTERS],
+        }
+    }
+
     /// The length of the row λ of the inner shape at an index, counted from 0.
     fn outside(&self, index: usize) -> u16
         ensures value { result ≡ get_or self.now.inner.items index 0 }
