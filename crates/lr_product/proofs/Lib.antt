@@ -33,3 +33,7 @@ mod RangeSums
 mod LastRow
 mod LockStep
 mod Windows
+mod LatticeFilling
+mod LatticeBounds
+mod LatticeLaws
+mod LatticeStarts

@@ -10,3 +10,4 @@ pub mod LetterRoom
 pub mod Places
 pub mod RowExtension
 pub mod LastRows
+pub mod LatticeRows

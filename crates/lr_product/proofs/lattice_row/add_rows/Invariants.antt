@@ -1,0 +1,23 @@
+use Rattle.std.proofs.Common.{◌≡◌, ℕ, ◌+◌, ◌<◌, ◌≤◌, ◌⊎◌, true, List, take}
+use Rattle.std.specs.List.{All}
+use Rattle.prefix_walk.specs.Steps.{sum_at}
+use Rattle.lr_product.specs.RowExtension.{next_row}
+use Rattle.lr_product.specs.LatticeRows.{CountsEndings, IsStep}
+use Rattle.lr_product.proofs.lattice_row.add_rows.Given as goal
+
+abbrev pub invariant-loop-entry : goal.invariant-loop-entry
+invariant-loop-entry l = record {
+  steps : All (λ step. IsStep l.row.letters l.row.is_last l.row.content step.0 step.1.content) l.steps.items;
+  inside :
+      (a : ℕ) (f : List ℕ → List ℕ → ℕ)
+      → CountsEndings l.row.letters l.row.is_last (take l.row.letters l.row.content) f
+      → l.low ≤ a
+      → a < l.entry
+      → sum_at a (λ s. f (take l.row.letters s.content) (take l.row.letters s.ends)) l.steps.items
+      ≡ next_row l.row.letters true l.row.outside a f (take l.row.letters l.row.start.content) (take l.row.letters l.row.start.ends);
+  outside :
+      (a : ℕ) (f : List ℕ → List ℕ → ℕ)
+      → CountsEndings l.row.letters l.row.is_last (take l.row.letters l.row.content) f
+      → (a < l.low) ⊎ (l.entry ≤ a)
+      → sum_at a (λ s. f (take l.row.letters s.content) (take l.row.letters s.ends)) l.steps.items ≡ 0;
+}
