@@ -113,7 +113,7 @@ fn count_inside(
     if has_no_room(outer, inner, content) {
         return Ok(0);
     }
-    let most = most_additions(outer, inside);
+    let most = most_additions(outer, inner.rows().min(content.rows()), inside);
     if let Some(count) = count_in_rows(alloc, outer, inner, content, most)? {
         return Ok(count);
     }
@@ -149,12 +149,18 @@ fn count_in_rows(
 }
 
 /// The number of ways to add a row up to which the tableaux are counted by rows; beyond it the
-/// columns are usually faster. They have at most about as many states as there are partitions inside
-/// the content, `inside`, but if these are many, often far fewer: so no more than 2^20 ways are tried
-/// in vain, or a small part of `inside`. Up to six rows there is no limit.
-fn most_additions(outer: &Partition, inside: u64) -> usize {
-    if outer.rows() <= 6 {
+/// columns are usually faster. `parts` is the smaller number of parts of the two factors. Up to five
+/// rows there is no limit. Six rows are added only if both factors have at least five parts: columns
+/// of at most four letters have few states. From seven rows on, the columns have at most about as
+/// many states as there are partitions inside the content, `inside`, but if these are many, often
+/// far fewer: so no more than 2^20 ways are tried in vain, or a small part of `inside`.
+fn most_additions(outer: &Partition, parts: u16, inside: u64) -> usize {
+    let rows = outer.rows();
+    if rows <= 5 || rows == 6 && parts >= 5 {
         return usize::MAX;
+    }
+    if rows == 6 {
+        return 0;
     }
     (inside / 5).min((inside / 1024).max(1 << 20)) as usize
 }
