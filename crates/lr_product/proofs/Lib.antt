@@ -1,23 +1,23 @@
-mod Agreeing
-mod RowWords
-mod RowTableaux
-mod RowFold
-mod RowFilling
-mod RowRounds
-mod RowPruning
+pub mod Agreeing
+pub mod RowWords
+pub mod RowTableaux
+pub mod RowFold
+pub mod RowFilling
+pub mod RowRounds
+pub mod RowPruning
 mod Tables
 mod CountedStates
 mod Raising
-mod LetterSums
+pub mod LetterSums
 pub mod Results
-mod Ranges
+pub mod Ranges
 mod ColumnExtension
 mod Steps
 mod Reaching
 mod ColumnsOfCounts
 mod Heights
 mod Rounds
-mod Sums
+pub mod Sums
 pub mod Pruned
 mod FreeLetters
 mod CountedLists
@@ -29,11 +29,7 @@ mod ManyStarts
 pub mod Partial
 mod NothingLeft
 mod ExchangedFactors
-mod RangeSums
+pub mod RangeSums
 mod LastRow
 mod LockStep
 mod Windows
-mod LatticeFilling
-mod LatticeBounds
-mod LatticeLaws
-mod LatticeStarts

@@ -10,4 +10,3 @@ pub mod LetterRoom
 pub mod Places
 pub mod RowExtension
 pub mod LastRows
-pub mod LatticeRows

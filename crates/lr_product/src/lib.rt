@@ -25,8 +25,6 @@ mod counts;
 mod extension;
 mod factor_product;
 mod last_rows;
-mod lattice_row;
-mod lattice_rows;
 mod letter_room;
 mod letters;
 mod next_factor;

@@ -1,9 +1,9 @@
-use Rattle.std.proofs.Common.{◌≡◌, ℕ, ◌+◌, ◌<◌, ◌≤◌, ◌⊎◌, true, List, take}
+use Rattle.std.proofs.Common.{◌≡◌, ℕ, ◌<◌, ◌≤◌, ◌⊎◌, true, List, take}
 use Rattle.std.specs.List.{All}
 use Rattle.prefix_walk.specs.Steps.{sum_at}
 use Rattle.lr_product.specs.RowExtension.{next_row}
-use Rattle.lr_product.specs.LatticeRows.{CountsEndings, IsStep}
-use Rattle.lr_product.proofs.lattice_row.add_rows.Given as goal
+use Rattle.lattice_rows.specs.LatticeRows.{CountsEndings, IsStep}
+use Rattle.lattice_rows.proofs.lattice_row.add_rows.Given as goal
 
 abbrev pub invariant-loop-entry : goal.invariant-loop-entry
 invariant-loop-entry l = record {

@@ -1,8 +1,8 @@
 -- The number of ways to add rows to a sum so that it becomes the content μ (n numbers): it is 0 if the sum cannot become μ (`CountsEndings`).
-use Rattle.std.proofs.Common.{◌≡◌, ℕ, zero, suc, ◌+◌, ◌-◌, ◌<◌, ◌≤◌, ◌==◌, ◌⊎◌, inl, inr, nat_le, nat_lt, nat_eq, Bool, true, false, ◌&&◌, cond, List, [], ◌∷◌, ◌++◌, length, take, drop, get_or, refl, sym, ap, ap₂, ◌∙◌, subst, arith}
+use Rattle.std.proofs.Common.{◌≡◌, ℕ, zero, suc, ◌+◌, ◌-◌, ◌<◌, ◌≤◌, ◌==◌, ◌⊎◌, inl, inr, nat_le, nat_lt, nat_eq, Bool, true, false, cond, List, [], ◌∷◌, ◌++◌, length, take, drop, get_or, refl, sym, ap, ap₂, ◌∙◌, arith}
 use Rattle.std.specs.Cmp.Lexicographic.{pointwise}
 use Rattle.std.proofs.lemmas.Bool.{cases_lt, lt-leb, lt-ltb, le-leb, both_ways, and_from, eqb-true}
-use Rattle.std.proofs.lemmas.List.{get_or-take, length-take-le}
+use Rattle.std.proofs.lemmas.List.{get_or-take}
 use Rattle.std.proofs.lemmas.Slice.Eq.{bytes_eq-Decides}
 use Rattle.sym_model.specs.Sum.{sum_by}
 use Rattle.sym_model.specs.Partition.{part}
@@ -11,10 +11,10 @@ use Rattle.sym_model.proofs.Numbers.{zero_either}
 use Rattle.tableau_laws.specs.Grid.{pass_by_place, may_precede}
 use Rattle.lr_product.specs.Extension.{numbers_from}
 use Rattle.lr_product.specs.RowExtension.{added, filled, next_row, over_rows, least_left, most_left}
-use Rattle.lr_product.specs.LatticeRows.{fills, CountsEndings}
-use Rattle.lr_product.proofs.RowFilling.{take-added, length-added, length_put, vanishes-row}
-use Rattle.lr_product.proofs.LatticeFilling.{short_below, short_above}
-use Rattle.lr_product.proofs.LatticeBounds.{ends_outside}
+use Rattle.lattice_rows.specs.LatticeRows.{fills, CountsEndings}
+use Rattle.lr_product.proofs.RowFilling.{take-added, length_put, vanishes-row}
+use Rattle.lattice_rows.proofs.LatticeFilling.{short_below, short_above}
+use Rattle.lattice_rows.proofs.LatticeBounds.{ends_outside}
 
 -- ---- the last row
 

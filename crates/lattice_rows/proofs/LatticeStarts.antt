@@ -1,15 +1,14 @@
 -- The first row of a lattice tableau: a row above it that is long enough for each letter restricts it as little as no row.
-use Rattle.std.proofs.Common.{◌≡◌, ℕ, zero, suc, ◌+◌, ◌-◌, ◌<◌, ◌≤◌, ◌==◌, ◌⊎◌, inl, inr, nat_le, min, Bool, true, false, cond, List, [], ◌∷◌, ◌++◌, length, take, drop, get_or, replicate, refl, sym, ap, ap₂, ◌∙◌, arith}
+use Rattle.std.proofs.Common.{◌≡◌, ℕ, zero, suc, ◌+◌, ◌-◌, ◌<◌, ◌≤◌, ◌==◌, ◌⊎◌, inl, inr, nat_le, Bool, true, false, cond, List, [], ◌∷◌, ◌++◌, length, take, drop, get_or, replicate, refl, sym, ap, ◌∙◌, arith}
 use Rattle.std.proofs.lemmas.Bool.{cases_lt, lt-leb, le-leb}
 use Rattle.sym_model.specs.Sum.{sum_by}
 use Rattle.sym_model.specs.Partition.{part}
-use Rattle.tableau_laws.specs.Grid.{may_precede}
 use Rattle.lr_product.specs.Extension.{numbers_from, mark}
 use Rattle.lr_product.specs.RowExtension.{added, filled, next_row, over_rows, least_left, most_left}
-use Rattle.lr_product.specs.LatticeRows.{fills, row_room, greatest_end, CountsEndings}
+use Rattle.lattice_rows.specs.LatticeRows.{fills, greatest_end, CountsEndings}
 use Rattle.lr_product.proofs.Ranges.{numbers-ext}
-use Rattle.lr_product.proofs.LatticeBounds.{ends_outside, row_outside}
-use Rattle.lr_product.proofs.LatticeLaws.{over-first, ways-counts}
+use Rattle.lattice_rows.proofs.LatticeBounds.{ends_outside, row_outside}
+use Rattle.lattice_rows.proofs.LatticeLaws.{over-first, ways-counts}
 
 -- each number of the list is at least k
 record AreLong (k : ℕ) (above : List ℕ) : Type 0 where
@@ -55,7 +54,7 @@ length-copies : (n b : ℕ) → length (replicate n b) ≡ n
 length-copies zero b = refl
 length-copies (suc n) b = let e = length-copies n b in omega arith
 
-take-copies : (n b : ℕ) → take n (replicate n b) ≡ replicate n b
+pub take-copies : (n b : ℕ) → take n (replicate n b) ≡ replicate n b
 take-copies zero b = refl
 take-copies (suc n) b = ap (λ l. b ∷ l) (take-copies n b)
 

@@ -1,11 +1,9 @@
-use Rattle.std.proofs.Common.{◌≡◌, ℕ, suc, ◌+◌, ◌-◌, ◌<◌, ◌≤◌, ◌==◌, cond, max, min, true, List, [], ◌∷◌, ◌++◌, length, length-append, take, drop, get_or, sym, ap, ap₂, ◌∙◌, subst, arith}
+use Rattle.std.proofs.Common.{◌≡◌, ℕ, suc, ◌+◌, ◌-◌, ◌==◌, max, min, true, List, [], ◌∷◌, ◌++◌, length, length-append, take, drop, get_or, ap, ap₂, ◌∙◌, arith}
 use Rattle.std.proofs.lemmas.List.{get_or-set_other, get_or-take, get_or_append_left, length-take-le}
-use Rattle.sym_model.specs.Sum.{sum_by}
-use Rattle.lr_product.specs.Extension.{numbers_from}
 use Rattle.lr_product.specs.RowExtension.{added, filled}
-use Rattle.lr_product.specs.LatticeRows.{least_end, greatest_end, row_room, AgreeBelow}
-use Rattle.lr_product.proofs.LatticeFilling.{state_put, outside_within, sum_passed, sum_finished, within_bounds}
-use Rattle.lr_product.proofs.lattice_row.+fill.Goals as goal
+use Rattle.lattice_rows.specs.LatticeRows.{least_end, greatest_end, row_room, AgreeBelow}
+use Rattle.lattice_rows.proofs.LatticeFilling.{state_put, outside_within, sum_passed, sum_finished, within_bounds}
+use Rattle.lattice_rows.proofs.lattice_row.+fill.Goals as goal
 
 pub fill-requires : goal.fill-requires
 fill-requires t c =

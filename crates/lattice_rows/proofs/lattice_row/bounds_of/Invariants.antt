@@ -1,6 +1,6 @@
-use Rattle.std.proofs.Common.{◌≡◌, ◌≤◌, ◌<◌, length, take, get_or}
-use Rattle.lr_product.specs.LatticeRows.{AreBounds}
-use Rattle.lr_product.proofs.lattice_row.bounds_of.Given as goal
+use Rattle.std.proofs.Common.{◌≡◌, ◌<◌, length, take, get_or}
+use Rattle.lattice_rows.specs.LatticeRows.{AreBounds}
+use Rattle.lattice_rows.proofs.lattice_row.bounds_of.Given as goal
 
 abbrev pub invariant-loop-at : goal.invariant-loop-at
 invariant-loop-at l = record {

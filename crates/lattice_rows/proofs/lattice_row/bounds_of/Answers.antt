@@ -1,8 +1,8 @@
-use Rattle.std.proofs.Common.{◌≡◌, ◌+◌, ◌-◌, ◌<◌, ◌≤◌, suc, min, max, length, take, get_or, ap, ◌∙◌, sym, arith}
+use Rattle.std.proofs.Common.{◌≡◌, ◌+◌, ◌-◌, ◌<◌, ◌≤◌, suc, take, get_or, ap, ◌∙◌, arith}
 use Rattle.std.proofs.lemmas.List.{get_or-set_same, get_or-take, length-set}
-use Rattle.lr_product.specs.LatticeRows.{least_end, greatest_end, row_room}
-use Rattle.lr_product.proofs.LatticeBounds.{bounds_next, room_value}
-use Rattle.lr_product.proofs.lattice_row.bounds_of.Goals as goal
+use Rattle.lattice_rows.specs.LatticeRows.{least_end, greatest_end, row_room}
+use Rattle.lattice_rows.proofs.LatticeBounds.{bounds_next, room_value}
+use Rattle.lattice_rows.proofs.lattice_row.bounds_of.Goals as goal
 
 pub loop-at-preserved : goal.loop-at-preserved
 loop-at-preserved c =

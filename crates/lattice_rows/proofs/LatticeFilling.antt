@@ -1,16 +1,14 @@
 -- A row is added to a sum s of n numbers, in which the letter t + 1 is to occur μ_t times in the end. f may count the ways to complete the sum and the
 -- row (`CountsEndings`): it is 0 if the sum cannot become μ. Here are ends of the row after which every result is 0. If the places of the row are
 -- filled in all ways with letters up to t, `filled` is the sum of f over the results.
-use Rattle.std.proofs.Common.{◌≡◌, ℕ, zero, suc, ◌+◌, ◌-◌, ◌<◌, ◌≤◌, ◌==◌, ◌⊎◌, inl, inr, nat_le, nat_lt, min, max, Bool, true, false, cond, List, [], ◌∷◌, ◌++◌, length, take, drop, get_or, set, length-append, append_assoc, refl, sym, ap, ap₂, subst, ◌∙◌, arith, rules}
-use Rattle.std.proofs.lemmas.Bool.{cases_lt, lt-leb}
+use Rattle.std.proofs.Common.{◌≡◌, ℕ, zero, suc, ◌+◌, ◌-◌, ◌<◌, ◌≤◌, ◌⊎◌, inl, inr, min, max, Bool, true, false, cond, List, [], ◌∷◌, ◌++◌, length, take, drop, get_or, set, length-append, append_assoc, refl, sym, ap, ap₂, subst, ◌∙◌, arith}
+use Rattle.std.proofs.lemmas.Bool.{cases_lt}
 use Rattle.std.proofs.lemmas.List.{get_or-take, get_or-drop, length-take-le, drop-drop}
 use Rattle.std.proofs.Math.Seq.{take-suc-set}
 use Rattle.sym_model.specs.Sum.{sum_by}
-use Rattle.tableau_laws.specs.Grid.{may_precede}
-use Rattle.lr_product.specs.WeighedSum.{VanishesOutside}
-use Rattle.lr_product.specs.Extension.{numbers_from, greatest_letter, mark}
-use Rattle.lr_product.specs.RowExtension.{added, filled, next_row, least_left, most_left}
-use Rattle.lr_product.specs.LatticeRows.{row_room, least_end, greatest_end, AgreeBelow, CountsEndings}
+use Rattle.lr_product.specs.Extension.{numbers_from}
+use Rattle.lr_product.specs.RowExtension.{added, filled, least_left, most_left}
+use Rattle.lattice_rows.specs.LatticeRows.{row_room, least_end, greatest_end, AgreeBelow, CountsEndings}
 use Rattle.lr_product.proofs.Pruned.{numbers-zero}
 use Rattle.lr_product.proofs.LetterSums.{sum-step, sum-end}
 use Rattle.lr_product.proofs.RangeSums.{sum-narrowed}

@@ -6,7 +6,7 @@ ghost use Rattle.std.specs.Prelude.{[], min, set, get_or, slice_index, OnOk, IsT
 ghost use Rattle.std.specs.List.{All};
 ghost use Rattle.prefix_walk.specs.Steps.{sum_at};
 ghost use Rattle.lr_product.specs.RowExtension.{filled, next_row};
-ghost use Rattle.lr_product.specs.LatticeRows.{AreBounds, AgreeBelow, CountsEndings, IsStep};
+ghost use Rattle.lattice_rows.specs.LatticeRows.{AreBounds, AgreeBelow, CountsEndings, IsStep};
 
 use calc_base::NoMemory;
 
@@ -15,7 +15,7 @@ pub(crate) const MOST_LETTERS: usize = 8;
 
 /// What the rows added so far leave for the rows below them.
 #[derive(Clone, Copy)]
-pub(crate) struct LatticeState {
+pub struct LatticeState {
     /// How often each of the letters 1, .., n occurs in the rows.
     pub(crate) content: [u8; MOST_LETTERS],
     /// The ends E_(n-1), .., E_0 of the row added last.

@@ -1,9 +1,9 @@
-use Rattle.std.proofs.Common.{◌≡◌, ◌+◌, ◌-◌, ◌≤◌, ◌==◌, length, take, drop, get_or, ap, ◌∙◌, sym, subst, arith}
+use Rattle.std.proofs.Common.{◌≡◌, ◌+◌, ◌-◌, ◌≤◌, ◌==◌, length, take, drop, ap, ◌∙◌, sym, subst, arith}
 use Rattle.std.proofs.lemmas.List.{length-take-le, drop-drop}
 use Rattle.lr_product.specs.RowExtension.{over_rows}
-use Rattle.lr_product.specs.LatticeRows.{fills, CountsEndings}
-use Rattle.lr_product.proofs.LatticeLaws.{first-row, ways-counts}
-use Rattle.lr_product.proofs.lattice_rows.LatticeRowsPrefixesLatticeState.steps.Goals as goal
+use Rattle.lattice_rows.specs.LatticeRows.{fills, CountsEndings}
+use Rattle.lattice_rows.proofs.LatticeLaws.{first-row, ways-counts}
+use Rattle.lattice_rows.proofs.lattice_rows.LatticeRowsPrefixesLatticeState.steps.Goals as goal
 
 pub returns-clause-ways : goal.returns-clause-ways
 returns-clause-ways c a label len =

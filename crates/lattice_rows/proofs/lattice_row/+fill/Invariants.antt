@@ -1,11 +1,11 @@
-use Rattle.std.proofs.Common.{◌≡◌, ℕ, ◌+◌, ◌-◌, ◌<◌, ◌≤◌, ◌==◌, true, cond, List, [], ◌∷◌, ◌++◌, take, drop}
+use Rattle.std.proofs.Common.{◌≡◌, ℕ, ◌+◌, ◌-◌, ◌==◌, true, cond, List, [], ◌∷◌, ◌++◌, take, drop}
 use Rattle.std.specs.List.{All}
 use Rattle.sym_model.specs.Sum.{sum_by}
 use Rattle.prefix_walk.specs.Steps.{sum_at}
 use Rattle.lr_product.specs.Extension.{numbers_from}
 use Rattle.lr_product.specs.RowExtension.{added, filled}
-use Rattle.lr_product.specs.LatticeRows.{CountsEndings, IsStep}
-use Rattle.lr_product.proofs.lattice_row.+fill.Given as goal
+use Rattle.lattice_rows.specs.LatticeRows.{CountsEndings, IsStep}
+use Rattle.lattice_rows.proofs.lattice_row.+fill.Given as goal
 
 abbrev pub decreases-fill : goal.decreases-fill
 decreases-fill l = l.up_to

@@ -1,9 +1,9 @@
-use Rattle.std.proofs.Common.{◌≡◌, ℕ, ◌+◌, ◌-◌, ◌<◌, ◌≤◌, ◌⊎◌, inl, inr, true, List, length, take, drop, get_or, ap, ◌∙◌, sym, arith}
+use Rattle.std.proofs.Common.{◌≡◌, ℕ, ◌<◌, ◌≤◌, ◌⊎◌, inl, inr, true, length, take, get_or, ap, ◌∙◌, sym, arith}
 use Rattle.std.proofs.lemmas.List.{length-take-le}
 use Rattle.lr_product.specs.RowExtension.{next_row}
-use Rattle.lr_product.specs.LatticeRows.{least_end, greatest_end}
-use Rattle.lr_product.proofs.LatticeBounds.{row_within, row_outside, rows_step, rows_other, rows_all}
-use Rattle.lr_product.proofs.lattice_row.add_rows.Goals as goal
+use Rattle.lattice_rows.specs.LatticeRows.{least_end, greatest_end}
+use Rattle.lattice_rows.proofs.LatticeBounds.{row_within, row_outside, rows_step, rows_other, rows_all}
+use Rattle.lattice_rows.proofs.lattice_row.add_rows.Goals as goal
 
 pub loop-entry-preserved : goal.loop-entry-preserved
 loop-entry-preserved c =

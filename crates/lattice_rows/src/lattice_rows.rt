@@ -1,9 +1,10 @@
 //! The product of two Schur polynomials by the rows of the labels ν: lattice tableaux of ν/λ with
 //! the content μ, built row by row, from the first row on.
 ghost use Rattle.std.specs.Prelude.{◌≡◌, ℕ, ◌+◌, ◌<◌, ◌≤◌, List, [], ◌∷◌, get_or, take, replicate};
-ghost use Rattle.sym_model.specs.Partition.{part};
+ghost use Rattle.sym_model.specs.Partition.{part, ArePositive};
 ghost use Rattle.lr_product.specs.RowExtension.{over_rows};
-ghost use Rattle.lr_product.specs.LatticeRows.{fills, row_ways};
+ghost use Rattle.lr_product.specs.WeighedSum.{comes_to};
+ghost use Rattle.lattice_rows.specs.LatticeRows.{row_ways};
 
 use crate::lattice_row::{LatticeState, MOST_LETTERS, Row, add_rows, bounds_of};
 use calc_base::NoMemory;
@@ -11,7 +12,7 @@ use prefix_walk::Prefixes;
 
 /// The rule by which the rows of ν are found one by one.
 #[derive(Drop)]
-pub(crate) struct LatticeRows {
+pub struct LatticeRows {
     /// The number n of letters, from 2 to 8.
     letters: usize,
     /// The number of rows of ν, zeros at the end included.
@@ -24,15 +25,16 @@ pub(crate) struct LatticeRows {
 
 impl LatticeRows {
     /// The state before the first row. The row above it is so long that it restricts no letter.
-    pub(crate) fn start(&self) -> LatticeState
+    pub fn start(&self) -> LatticeState
         ensures content { result.content ≡ replicate 8 0 }
         ensures ends { result.ends ≡ replicate 8 255 }
         ensures ways { (a : ℕ) (label : List ℕ) → 2 ≤ self.now.letters → self.now.letters ≤ 8
+            → ArePositive (take self.now.letters self.now.content)
             → part self.now.inner.items 1 + get_or (take self.now.letters self.now.content) 0 0 ≤ 255
             → row_ways self.now.letters self.now.content self.now.inner.items (a ∷ label)
             result.content result.ends
             ≡ over_rows self.now.letters (a ∷ label) self.now.inner.items
-            (fills (take self.now.letters self.now.content)) (replicate self.now.letters 0) [] }
+            (comes_to (take self.now.letters self.now.content)) (replicate self.now.letters 0) [] }
     {
         LatticeState {
             content: [0; MOST_LETTERS],
@@ -56,7 +58,7 @@ impl Prefixes<LatticeState> for LatticeRows {
     ghost use Rattle.std.specs.Prelude.{ℕ, ◌-◌, List, take, drop, cond, refl};
     ghost use Rattle.std.proofs.Common.{ap};
     ghost use Rattle.std.proofs.lemmas.Slice.Eq.{bytes_eq-Decides};
-    ghost use Rattle.lr_product.specs.LatticeRows.{row_ways, IsLatticeState};
+    ghost use Rattle.lattice_rows.specs.LatticeRows.{row_ways, IsLatticeState};
 
     ghost is_state = { λ rule after s. IsLatticeState rule.letters rule.rows after rule.content
         s.content };

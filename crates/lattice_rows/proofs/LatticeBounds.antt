@@ -1,13 +1,13 @@
 -- The bounds for the next row of a lattice tableau, in lists, and the rows that they allow.
-use Rattle.std.proofs.Common.{◌≡◌, ℕ, zero, suc, ◌+◌, ◌-◌, ◌<◌, ◌≤◌, ◌==◌, ◌⊎◌, inl, inr, nat_le, min, max, Bool, true, false, cond, List, [], ◌∷◌, ◌++◌, length, take, drop, get_or, set, append-nil, refl, sym, ap, ◌∙◌, subst, arith}
+use Rattle.std.proofs.Common.{◌≡◌, ℕ, zero, suc, ◌+◌, ◌-◌, ◌<◌, ◌≤◌, ◌==◌, ◌⊎◌, inl, inr, nat_le, min, Bool, true, cond, List, [], ◌∷◌, ◌++◌, length, take, drop, get_or, set, append-nil, sym, ap, ◌∙◌, subst, arith}
 use Rattle.std.proofs.lemmas.Bool.{cases_lt, lt-leb, le-leb, ne_eqb, eq-eqb}
 use Rattle.std.proofs.lemmas.List.{get_or-set_other, get_or-set_same, get_or-take, length-take-le}
 use Rattle.sym_model.proofs.Numbers.{zero_either}
 use Rattle.tableau_laws.specs.Grid.{may_precede}
-use Rattle.lr_product.specs.RowExtension.{filled, next_row, most_left}
-use Rattle.lr_product.specs.LatticeRows.{row_room, least_end, greatest_end, AreBounds, AgreeBelow, CountsEndings}
+use Rattle.lr_product.specs.RowExtension.{filled, next_row}
+use Rattle.lattice_rows.specs.LatticeRows.{row_room, least_end, greatest_end, AreBounds, AgreeBelow, CountsEndings}
 use Rattle.lr_product.proofs.LetterSums.{sum-end}
-use Rattle.lr_product.proofs.LatticeFilling.{least_excluded, greatest_excluded, outside_within}
+use Rattle.lattice_rows.proofs.LatticeFilling.{least_excluded, greatest_excluded}
 
 pub bounds_next : (n m out : ℕ) (μ c ends room least greatest : List ℕ) (r l g : ℕ) → m < length room → m + 1 < length least → m + 1 < length greatest
     → AreBounds n m out μ c ends room least greatest → r ≡ row_room μ c m → l ≡ least_end out μ c (suc m) → g ≡ greatest_end n out μ c ends (suc m) → get_or c m 0 + r < 256

@@ -1,0 +1,5 @@
+mod LatticeFilling
+mod LatticeBounds
+mod LatticeLaws
+mod LatticeStarts
+mod LatticeEnds

@@ -1,0 +1,2 @@
+-- The rows of lattice tableaux: the ways to add them, and their bounds.
+pub mod LatticeRows
