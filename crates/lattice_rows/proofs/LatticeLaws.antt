@@ -76,7 +76,7 @@ module _ (n : ℕ) (is_last : Bool) (μ : List ℕ) (f : List ℕ → List ℕ �
   row-short out a ν (x ∷ ends) j l m h q = by (cases_lt a out) (cases_lt (suc j) n) (cases_lt x a)
     where
       by : (a < out) ⊎ (out ≤ a) → (suc j < n) ⊎ (n ≤ suc j) → (x < a) ⊎ (a ≤ x) → next_row n true out a f ν (x ∷ ends) ≡ 0
-      by (inl o) p r = zero_either (nat_le a x) (ends_outside n out a ends ν f some o)
+      by (inl o) p r = zero_either (nat_le a x) (ends_outside true n out a ends ν f some o)
       by (inr o) (inl p) r =
           let i : n - suc j ≡ suc (n - suc (suc j)) = omega arith in
           let e = ap (λ k. get_or (x ∷ ends) k 0) i in

@@ -3,3 +3,5 @@ mod LatticeBounds
 mod LatticeLaws
 mod LatticeStarts
 mod LatticeEnds
+mod LatticeLabels
+mod LabelWays
