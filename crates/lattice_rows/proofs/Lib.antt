@@ -5,3 +5,7 @@ mod LatticeStarts
 mod LatticeEnds
 mod LatticeLabels
 mod LabelWays
+mod Listed
+mod ListedTerms
+mod RuleWays
+mod RuleTerms
