@@ -13,6 +13,7 @@ use Rattle.lr_product.specs.Extension.{numbers_from, mark}
 use Rattle.lr_product.specs.RowExtension.{added, filled, next_row, over_rows, least_left, most_left}
 use Rattle.lr_product.proofs.RowFilling.{length_put}
 use Rattle.lr_product.proofs.Ranges.{numbers-ext}
+use Rattle.lattice_rows.proofs.LatticeFilling.{get-put_last, length-put}
 use Rattle.lattice_rows.proofs.LatticeBounds.{ends_outside}
 
 -- f is 0 at each sum of n numbers
@@ -59,29 +60,6 @@ most-here : (out t k : ℕ) (above : List ℕ) → most_left out (suc t) k above
 most-here out t k [] = omega arith
 most-here out t k (x ∷ above) = omega arith
 
--- the end of the letters up to n - 1 is the first number that the row appends
-get-first : (n t i x : ℕ) (s : List ℕ) → length s ≡ n → get_or (added t i s ++ x ∷ []) n 0 ≡ x
-get-first zero t i x [] l = refl
-get-first zero t i x (a ∷ s) l = absurd (omega arith)
-get-first (suc n) t i x [] l = absurd (omega arith)
-get-first (suc n) zero i x (a ∷ s) l = by n s (omega arith)
-  where
-    by : (m : ℕ) (w : List ℕ) → length w ≡ m → get_or (w ++ x ∷ []) m 0 ≡ x
-    by zero [] q = refl
-    by zero (b ∷ w) q = absurd (omega arith)
-    by (suc m) [] q = absurd (omega arith)
-    by (suc m) (b ∷ w) q = by m w (omega arith)
-get-first (suc n) (suc t) i x (a ∷ s) l = get-first n t i x s (omega arith)
-
-length-put : (t i x : ℕ) (s : List ℕ) → length (added t i s ++ x ∷ []) ≡ suc (length s)
-length-put t i x [] = refl
-length-put zero i x (a ∷ s) = ap suc (by s)
-  where
-    by : (w : List ℕ) → length (w ++ x ∷ []) ≡ suc (length w)
-    by [] = refl
-    by (b ∷ w) = ap suc (by w)
-length-put (suc t) i x (a ∷ s) = ap suc (length-put t i x s)
-
 row-after : (n out a : ℕ) (above s : List ℕ) (f : List ℕ → List ℕ → ℕ) → 2 ≤ n → length s ≡ n → VanishesAfter n a f → filled true n out n a above f s ≡ 0
 row-after zero out a above s f h l v = absurd (omega arith)
 row-after (suc zero) out a above s f h l v = absurd (omega arith)
@@ -89,7 +67,7 @@ row-after (suc (suc n)) out a above s f h l v =
     numbers-ext (λ y. filled true (suc (suc n)) out (suc n) y (drop 1 above) f (added (suc n) (a - y) s ++ mark true y)) (λ y. 0)
     (least_left out (suc n) a s) (most_left out (suc n) a above + 1 - least_left out (suc n) a s)
     (λ y low high. filled-after (suc (suc n)) a out (suc n) y (drop 1 above) (added (suc n) (a - y) s ++ y ∷ []) f (omega arith) (let p = length-put (suc n) (a - y) y s in omega arith)
-    (let e = get-first (suc (suc n)) (suc n) (a - y) y s l in let m = most-here out n a above in omega arith) v)
+    (let e = get-put_last (suc n) (a - y) y s in let g = ap (λ i. get_or (added (suc n) (a - y) s ++ y ∷ []) i 0) l in let m = most-here out n a above in omega arith) v)
     ∙ sum-zero (least_left out (suc n) a s) (most_left out (suc n) a above + 1 - least_left out (suc n) a s)
 
 longer : (n b out : ℕ) (kept : Bool) (a : ℕ) (f : List ℕ → List ℕ → ℕ) → a < b → VanishesAfter n a (next_row n kept out b f)

@@ -25,9 +25,6 @@ fills-other μ ν right differ = by (pointwise nat_eq ν μ) refl
     by true e = absurd (differ ((bytes_eq-Decides ν μ).0 e))
     by false e = ap (λ t. cond t 1 0) e
 
-pub fills-itself : (μ right : List ℕ) → fills μ μ right ≡ 1
-fills-itself μ right = ap (λ t. cond t 1 0) ((bytes_eq-Decides μ μ).1 refl)
-
 pass-itself : (l : List ℕ) → pass_by_place nat_le l l ≡ true
 pass-itself [] = refl
 pass-itself (a ∷ l) = and_from (nat_le a a) (pass_by_place nat_le l l) (le-leb a a (omega arith)) (pass-itself l)

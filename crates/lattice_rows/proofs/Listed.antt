@@ -2,36 +2,15 @@
 use Rattle.std.proofs.Common.{◌≡◌, ◌⊎◌, inl, inr, ℕ, zero, suc, ◌<◌, ◌≤◌, Bool, cond, List, [], ◌∷◌, ◌++◌, length, refl, sym, ap, subst, arith}
 use Rattle.std.proofs.lemmas.Bool.{ne_eqb, cases_lt, eq-eqb}
 use Rattle.sym_model.specs.Sum.{Among}
+use Rattle.sym_model.specs.Bounded.{AreBelow}
+use Rattle.sym_model.proofs.Sums.{Among-append_left, Among-append_right, Among_from_append}
 use Rattle.prefix_walk.specs.Terms.{with_entry, from_top, lone_term, terms_below}
 
--- each entry is less than the bound
-abbrev pub AreBelow : ℕ → List ℕ → Type 0
-AreBelow bound [] = Unit {0}
-AreBelow bound (a ∷ label) = (a < bound) × AreBelow bound label
-
--- a listed term has a label of n entries below the bound, and its count, which is positive
+-- a listed term has a label of n entries, and its count, which is positive
 pub record IsListed (bound n : ℕ) (f : List ℕ → ℕ) (t : List ℕ × ℕ) : Type 0 where
   pub long : length t.0 ≡ n
   pub count : t.1 ≡ f t.0
   pub some : 0 < t.1
-
-among_left : (x : List ℕ × ℕ) (ys zs : List (List ℕ × ℕ)) → Among x ys → Among x (ys ++ zs)
-among_left x [] zs h = absurd h
-among_left x (y ∷ ys) zs (inl e) = inl e
-among_left x (y ∷ ys) zs (inr h) = inr (among_left x ys zs h)
-
-among_right : (x : List ℕ × ℕ) (ys zs : List (List ℕ × ℕ)) → Among x zs → Among x (ys ++ zs)
-among_right x [] zs h = h
-among_right x (y ∷ ys) zs h = inr (among_right x ys zs h)
-
-among_either : (x : List ℕ × ℕ) (ys zs : List (List ℕ × ℕ)) → Among x (ys ++ zs) → Among x ys ⊎ Among x zs
-among_either x [] zs h = inr h
-among_either x (y ∷ ys) zs (inl e) = inl (inl e)
-among_either x (y ∷ ys) zs (inr h) = more (among_either x ys zs h)
-  where
-    more : Among x ys ⊎ Among x zs → Among x (y ∷ ys) ⊎ Among x zs
-    more (inl k) = inl (inr k)
-    more (inr k) = inr k
 
 -- a term with the entry a in front comes from a term
 abbrev IsPut : ℕ → List ℕ × ℕ → List (List ℕ × ℕ) → Type 0
@@ -53,7 +32,7 @@ IsIn part n x = (a : ℕ) × (a < n) × Among x (part a)
 
 part_of : (part : ℕ → List (List ℕ × ℕ)) (n : ℕ) (x : List ℕ × ℕ) → Among x (from_top part n) → IsIn part n x
 part_of part zero x h = absurd h
-part_of part (suc n) x h = more (among_either x (part n) (from_top part n) h) (part_of part n x)
+part_of part (suc n) x h = more (Among_from_append x (part n) (from_top part n) h) (part_of part n x)
   where
     more : Among x (part n) ⊎ Among x (from_top part n) → (Among x (from_top part n) → IsIn part n x) → IsIn part (suc n) x
     more (inl k) rec = (n, omega arith, k)
@@ -64,8 +43,8 @@ in_part part zero a x l h = absurd (omega arith)
 in_part part (suc n) a x l h = split (cases_lt a n) (λ k. in_part part n a x k h)
   where
     split : (a < n) ⊎ (n ≤ a) → (a < n → Among x (from_top part n)) → Among x (part n ++ from_top part n)
-    split (inl k) rec = among_right x (part n) (from_top part n) (rec k)
-    split (inr k) rec = let e : a ≡ n = omega arith in among_left x (part n) (from_top part n) (subst (λ (i : ℕ). Among x (part i)) e h)
+    split (inl k) rec = Among-append_right x (part n) (from_top part n) (rec k)
+    split (inr k) rec = let e : a ≡ n = omega arith in Among-append_left x (part n) (from_top part n) (subst (λ (i : ℕ). Among x (part i)) e h)
 
 pub listed_tells : (bound n : ℕ) (f : List ℕ → ℕ) (t : List ℕ × ℕ) → Among t (terms_below bound n f) → IsListed bound n f t
 listed_tells bound zero f t h = split (f []) refl (cases_lt 0 (f [])) h

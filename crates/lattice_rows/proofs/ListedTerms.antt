@@ -6,6 +6,7 @@ use Rattle.std.proofs.lemmas.Bool.{cases_lt}
 use Rattle.std.proofs.lemmas.Int.{ints}
 use Rattle.fraction_laws.specs.Fractions.{whole}
 use Rattle.sym_model.specs.Sum.{Among}
+use Rattle.sym_model.specs.Bounded.{AreBelow}
 use Rattle.sym_model.specs.Partition.{IsPartition, rows, size, without_last_zeros}
 use Rattle.sym_model.specs.Polynomial.{coefficient, resize}
 use Rattle.sym_model.specs.LabelLimits.{is_label}
@@ -24,7 +25,7 @@ use Rattle.lr_product.specs.Counts.{HasCounts, IsPastSomewhere}
 use Rattle.lr_product.proofs.Placed.{table_of}
 use Rattle.lattice_rows.specs.ProductRule.{labelled, AreLimited, AreSmall, HasLarge}
 use Rattle.lattice_rows.proofs.LabelWays.{IsPadded}
-use Rattle.lattice_rows.proofs.Listed.{AreBelow, listed_tells, all_listed}
+use Rattle.lattice_rows.proofs.Listed.{listed_tells, all_listed}
 
 -- ---- lists of terms
 

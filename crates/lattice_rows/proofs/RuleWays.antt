@@ -1,10 +1,12 @@
 -- The ways that the rule for a product has to complete its start by a label: they are the counts of the product.
 use Rattle.std.proofs.Common.{◌≡◌, ◌⊎◌, inl, inr, ℕ, zero, suc, ◌+◌, ◌-◌, ◌<◌, ◌≤◌, true, cond, List, [], ◌∷◌, length, take, drop, get_or, replicate, refl, sym, ap, ap₂, ◌∙◌, subst, arith}
 use Rattle.std.proofs.lemmas.Bool.{cases_lt, lt-leb}
+use Rattle.std.proofs.lemmas.List.{length-replicate}
 use Rattle.sym_model.specs.Partition.{IsPartition, Falls, ArePositive, part, rows, size, without_last_zeros}
+use Rattle.sym_model.specs.Bounded.{AreBelow}
 use Rattle.sym_model.specs.Polynomial.{resize}
 use Rattle.sym_model.specs.GoodTableau.{product_count}
-use Rattle.sym_model.proofs.Exponents.{length-resize, resize-nil}
+use Rattle.sym_model.proofs.Exponents.{length-resize}
 use Rattle.sym_model.proofs.FirstPlaces.{Falls-resize}
 use Rattle.sym_model.proofs.Lists.{drop-none}
 use Rattle.alternant_laws.proofs.CountedTerms.{product_counts_stable}
@@ -17,15 +19,11 @@ use Rattle.lattice_rows.proofs.LatticeLaws.{over-first}
 use Rattle.lattice_rows.proofs.LatticeStarts.{start-ways, take-copies}
 use Rattle.lattice_rows.proofs.LatticeEnds.{ways-come}
 use Rattle.lattice_rows.proofs.LabelWays.{IsPadded, label_ways, padded_label}
-use Rattle.lattice_rows.proofs.Listed.{AreBelow}
 use Rattle.lattice_rows.proofs.ListedTerms.{AreCounted}
 
 part-first : (l : List ℕ) → part l 1 ≡ get_or l 0 0
 part-first [] = refl
 part-first (a ∷ l) = refl
-
-length-zeros : (n : ℕ) → length {A = ℕ} (replicate n 0) ≡ n
-length-zeros n = ap (length {A = ℕ}) (sym (resize-nil n)) ∙ length-resize n []
 
 -- ---- the entries of a label are less than 256
 
@@ -36,7 +34,7 @@ refused n (suc m) out a b F ν h l = ap (λ t. cond t (filled true n out n a (re
 first-small : (n a : ℕ) (label left right : List ℕ) → 2 ≤ n → length right ≡ n → ArePositive right → part left 1 + get_or right 0 0 ≤ 255 → 255 < a
     → over_rows n (a ∷ label) left (comes_to right) (replicate n 0) [] ≡ 0
 first-small n a label left right some full positive short large =
-    let z = length-zeros n in
+    let z : length {A = ℕ} (replicate n 0) ≡ n = length-replicate n 0 in
     ap (λ s. over_rows n (a ∷ label) left (comes_to right) s []) (sym (take-copies n 0))
     ∙ sym (ways-come n (a ∷ label) left right (replicate n 0) [] full positive)
     ∙ ap (λ s. over_rows n (a ∷ label) left (fills right) s []) (take-copies n 0)
@@ -80,7 +78,7 @@ module _ (left right : List ℕ) (n N k : ℕ) (padded outside content ends : Li
   some = let s = rule.some in let e = rule.letters_are in omega arith
 
   is_padded : (label : List ℕ) → length label ≡ N → (completed label ≡ 0 → ⊥) → IsPadded label
-  is_padded label l h = padded_label (rows right) label left (comes_to right) (replicate (rows right) 0) [] some (length-zeros (rows right)) (λ z. h (starts label l ∙ z))
+  is_padded label l h = padded_label (rows right) label left (comes_to right) (replicate (rows right) 0) [] some (length-replicate (rows right) 0) (λ z. h (starts label l ∙ z))
 
   is_below : (label : List ℕ) → length label ≡ N → (completed label ≡ 0 → ⊥) → AreBelow 256 label
   is_below [] l h = tt
