@@ -44,11 +44,11 @@ bounds_next n m out μ c ends room least greatest r l g a b d before is-r is-l i
         subst (λ i. get_or c i 0 + get_or (set room m r) i 0 < 256) (sym e) (let s = get_or-set_same room m r 0 a in omega arith)
 
 -- a row that ends before its first cell
-pub ends_outside : (n out k : ℕ) (above s : List ℕ) (f : List ℕ → List ℕ → ℕ) → 2 ≤ n → k < out → filled true n out n k above f s ≡ 0
-ends_outside zero out k above s f h g = absurd (omega arith)
-ends_outside (suc zero) out k above s f h g = absurd (omega arith)
-ends_outside (suc (suc n)) out k [] s f h g = sum-end _ _ _ (omega arith)
-ends_outside (suc (suc n)) out k (x ∷ above) s f h g = sum-end _ _ _ (omega arith)
+pub ends_outside : (kept : Bool) (n out k : ℕ) (above s : List ℕ) (f : List ℕ → List ℕ → ℕ) → 2 ≤ n → k < out → filled kept n out n k above f s ≡ 0
+ends_outside kept zero out k above s f h g = absurd (omega arith)
+ends_outside kept (suc zero) out k above s f h g = absurd (omega arith)
+ends_outside kept (suc (suc n)) out k [] s f h g = sum-end _ _ _ (omega arith)
+ends_outside kept (suc (suc n)) out k (x ∷ above) s f h g = sum-end _ _ _ (omega arith)
 
 -- the number of letters m + 1 that is allowed, as it is computed
 pub room_value : (m missing r : ℕ) (μ c : List ℕ) → missing ≡ get_or μ m 0 - get_or c m 0 → r ≡ min missing (cond (m == 0) missing (get_or c (m - 1) 0 - get_or c m 0))
@@ -100,7 +100,7 @@ module _ (n : ℕ) (is_last : Bool) (μ : List ℕ) (f : List ℕ → List ℕ �
           ∙ greatest_excluded n is_last μ f counts out m a U (take n c) c full u (omega arith) (omega arith) (subst (λ k. AgreeBelow k (take n c) c) e agree) o q
 
       by : (a < out) ⊎ (out ≤ a) → (a < least_end out μ c n) ⊎ (greatest_end n out μ c U n < a) → next_row n true out a f (take n c) U ≡ 0
-      by (inl o) q = zero_either (may_precede nat_le a U) (ends_outside n out a (drop 1 U) (take n c) f some o)
+      by (inl o) q = zero_either (may_precede nat_le a U) (ends_outside true n out a (drop 1 U) (take n c) f some o)
       by (inr o) (inl q) =
           zero_either (may_precede nat_le a U) (least_excluded n is_last μ f counts out n a (drop 1 U) (take n c) c (omega arith) (let w = length-take-le n c l in omega arith) agree o q)
       by (inr o) (inr q) = split (cases_lt (get_or U 0 0) a)

@@ -23,7 +23,7 @@ get-added_before zero i j (a ∷ s) w h l = absurd (omega arith)
 get-added_before (suc t) i zero (a ∷ s) w h l = refl
 get-added_before (suc t) i (suc j) (a ∷ s) w h l = get-added_before t i j s w (omega arith) (omega arith)
 
-get-put_last : (t i x : ℕ) (s : List ℕ) → get_or (added t i s ++ x ∷ []) (length s) 0 ≡ x
+pub get-put_last : (t i x : ℕ) (s : List ℕ) → get_or (added t i s ++ x ∷ []) (length s) 0 ≡ x
 get-put_last t i x [] = ap (λ l. get_or (l ++ x ∷ []) 0 0) (none t)
   where
     none : (k : ℕ) → added k i [] ≡ []
@@ -36,7 +36,7 @@ get-put_last zero i x (a ∷ s) = last s
     last (b ∷ v) = last v
 get-put_last (suc t) i x (a ∷ s) = get-put_last t i x s
 
-length-put : (t i x : ℕ) (s : List ℕ) → length (added t i s ++ x ∷ []) ≡ suc (length s)
+pub length-put : (t i x : ℕ) (s : List ℕ) → length (added t i s ++ x ∷ []) ≡ suc (length s)
 length-put t i x s = let l = length-append (added t i s) (x ∷ []) in let k = length-added t i s in omega arith
 
 length-rest : (n : ℕ) (s : List ℕ) → n ≤ length s → length (drop n s) ≡ length s - n

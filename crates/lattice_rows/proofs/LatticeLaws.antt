@@ -25,9 +25,6 @@ fills-other μ ν right differ = by (pointwise nat_eq ν μ) refl
     by true e = absurd (differ ((bytes_eq-Decides ν μ).0 e))
     by false e = ap (λ t. cond t 1 0) e
 
-pub fills-itself : (μ right : List ℕ) → fills μ μ right ≡ 1
-fills-itself μ right = ap (λ t. cond t 1 0) ((bytes_eq-Decides μ μ).1 refl)
-
 pass-itself : (l : List ℕ) → pass_by_place nat_le l l ≡ true
 pass-itself [] = refl
 pass-itself (a ∷ l) = and_from (nat_le a a) (pass_by_place nat_le l l) (le-leb a a (omega arith)) (pass-itself l)
@@ -76,7 +73,7 @@ module _ (n : ℕ) (is_last : Bool) (μ : List ℕ) (f : List ℕ → List ℕ �
   row-short out a ν (x ∷ ends) j l m h q = by (cases_lt a out) (cases_lt (suc j) n) (cases_lt x a)
     where
       by : (a < out) ⊎ (out ≤ a) → (suc j < n) ⊎ (n ≤ suc j) → (x < a) ⊎ (a ≤ x) → next_row n true out a f ν (x ∷ ends) ≡ 0
-      by (inl o) p r = zero_either (nat_le a x) (ends_outside n out a ends ν f some o)
+      by (inl o) p r = zero_either (nat_le a x) (ends_outside true n out a ends ν f some o)
       by (inr o) (inl p) r =
           let i : n - suc j ≡ suc (n - suc (suc j)) = omega arith in
           let e = ap (λ k. get_or (x ∷ ends) k 0) i in

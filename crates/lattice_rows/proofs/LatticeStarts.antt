@@ -87,14 +87,14 @@ module _ (n : ℕ) (is_last : Bool) (μ : List ℕ) (f : List ℕ → List ℕ �
 
       empty-row : (m : ℕ) → a < out → 2 ≤ m → next_row n true out a f (replicate n 0) (replicate m b) ≡ 0
       empty-row zero g q = absurd (omega arith)
-      empty-row (suc m) g q = ap (λ x. cond (nat_le a b) x 0) (ends_outside n out a (replicate m b) (replicate n 0) f some g) ∙ nothing (nat_le a b)
+      empty-row (suc m) g q = ap (λ x. cond (nat_le a b) x 0) (ends_outside true n out a (replicate m b) (replicate n 0) f some g) ∙ nothing (nat_le a b)
         where
           nothing : (t : Bool) → cond {A = ℕ} t 0 0 ≡ 0
           nothing true = refl
           nothing false = refl
 
       by : (a < out) ⊎ (out ≤ a) → (b < a) ⊎ (a ≤ b) → next_row n true out a f (replicate n 0) (replicate n b) ≡ next_row n true out a f (replicate n 0) []
-      by (inl g) q = empty-row n g some ∙ sym (ends_outside n out a [] (replicate n 0) f some g)
+      by (inl g) q = empty-row n g some ∙ sym (ends_outside true n out a [] (replicate n 0) f some g)
       by (inr o) (inr q) = first n b some o (rest-long n b q) q
       by (inr o) (inl q) =
           refused n some q

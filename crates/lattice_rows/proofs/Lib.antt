@@ -3,3 +3,9 @@ mod LatticeBounds
 mod LatticeLaws
 mod LatticeStarts
 mod LatticeEnds
+mod LatticeLabels
+mod LabelWays
+mod Listed
+mod ListedTerms
+mod RuleWays
+mod RuleTerms

@@ -1,14 +1,18 @@
 //! The product of two Schur polynomials by the rows of the labels ν: lattice tableaux of ν/λ with
 //! the content μ, built row by row, from the first row on.
 ghost use Rattle.std.specs.Prelude.{◌≡◌, ℕ, ◌+◌, ◌<◌, ◌≤◌, List, [], ◌∷◌, get_or, take, replicate};
+ghost use Rattle.std.specs.Prelude.{IfOk, IfSome, length};
 ghost use Rattle.sym_model.specs.Partition.{part, ArePositive};
 ghost use Rattle.lr_product.specs.RowExtension.{over_rows};
 ghost use Rattle.lr_product.specs.WeighedSum.{comes_to};
 ghost use Rattle.lattice_rows.specs.LatticeRows.{row_ways};
+ghost use Rattle.lattice_rows.specs.ProductRule.{IsRule};
 
 use crate::lattice_row::{LatticeState, MOST_LETTERS, Row, add_rows, bounds_of};
 use calc_base::NoMemory;
+use partitions::Partition;
 use prefix_walk::Prefixes;
+use std::alloc::Global;
 
 /// The rule by which the rows of ν are found one by one.
 #[derive(Drop)]
@@ -24,6 +28,35 @@ pub struct LatticeRows {
 }
 
 impl LatticeRows {
+    /// The rule for the product of the Schur polynomials of two partitions, as the inner shape and
+    /// the content. `None` unless `content` has 2 to 8 parts and the first parts of both add up to
+    /// at most 255.
+    pub fn new(
+        alloc: Global,
+        inner: &Partition,
+        content: &Partition,
+    ) -> Result<Option<LatticeRows>, NoMemory>
+        ensures { IfOk result (λ o. IfSome o (λ rule. IsRule inner.now content.now
+            rule.letters rule.rows rule.content rule.inner.items)) }
+    {
+        let letters = usize::from(content.rows());
+        if letters < 2 || letters > MOST_LETTERS || inner.part(1) + content.part(1) > 255 {
+            return Ok(None);
+        }
+        let Some(numbers) = in_bytes(content.parts()) else {
+            return Ok(None);
+        };
+        let Some(outside) = bytes_of(alloc, inner.parts())? else {
+            return Ok(None);
+        };
+        Ok(Some(LatticeRows {
+            letters,
+            rows: usize::from(inner.rows()) + letters,
+            content: numbers,
+            inner: outside,
+        }))
+    }
+
     /// The state before the first row. The row above it is so long that it restricts no letter.
     pub fn start(&self) -> LatticeState
         ensures content { result.content ≡ replicate 8 0 }
@@ -52,6 +85,35 @@ impl LatticeRows {
             None => 0,
         }
     }
+}
+
+/// The numbers, followed by zeros; `None` if one of them exceeds 255.
+fn in_bytes(numbers: &[u16]) -> Option<[u8; MOST_LETTERS]>
+    requires { length numbers.now ≤ 8 }
+    ensures { IfSome result (λ bytes. take (length numbers.now) bytes ≡ numbers.now) }
+{
+    let mut bytes = [0u8; MOST_LETTERS];
+    for at in 0..numbers.len() {
+        let Ok(byte) = u8::try_from(numbers[at]) else {
+            return None;
+        };
+        bytes[at] = byte;
+    }
+    Some(bytes)
+}
+
+/// The list of the numbers; `None` if one of them exceeds 255.
+fn bytes_of(alloc: Global, numbers: &[u16]) -> Result<Option<Vec<u8>>, NoMemory>
+    ensures { IfOk result (λ o. IfSome o (λ bytes. bytes.items ≡ numbers.now)) }
+{
+    let mut bytes: Vec<u8> = Vec::with_capacity(alloc, numbers.len())?;
+    for at in 0..numbers.len() {
+        let Ok(byte) = u8::try_from(numbers[at]) else {
+            return Ok(None);
+        };
+        bytes.push(byte)?;
+    }
+    Ok(Some(bytes))
 }
 
 impl Prefixes<LatticeState> for LatticeRows {

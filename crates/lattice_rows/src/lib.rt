@@ -9,10 +9,16 @@
 //! out only rows that no row below can complete. So the walk of `prefix_walk` counts the lattice
 //! tableaux of all shapes ν/λ, in decreasing lexicographic order of ν. The rule has 2 to 8 letters,
 //! and numbers below 256.
+//!
+//! `product` makes the terms of the product from this walk: the coefficient of each partition is
+//! the count `product_count` of good tableaux, the same as in `lr_product`, and `Large` is returned
+//! only if a coefficient exceeds 2^127 - 1. It returns `None` if the rule does not apply.
 #![tactic(auto)]
 
 mod lattice_row;
 mod lattice_rows;
+mod product_terms;
 
 pub use lattice_row::LatticeState;
 pub use lattice_rows::LatticeRows;
+pub use product_terms::product;
