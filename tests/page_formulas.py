@@ -71,6 +71,8 @@ def asked_words(formula, asked):
 
 def words_of(formula, asked=""):
     """The words of the command that a formula names; "" for one that is not known here."""
+    # (a Gr(1,n) is written as the projective space, and the identity of one letter in brackets)
+    formula = re.sub(r"P\^(\d+)", lambda it: f"Gr(1,{int(it[1]) + 1})", formula).replace("{[1]}", "{1}")
     if asked:
         return asked_words(formula, asked)
     line = re.fullmatch(r"(.*), on one line", formula)

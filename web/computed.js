@@ -11,10 +11,10 @@ function shown(words) {
   return parts.length > 0 ? inRound(parts) : "∅";
 }
 
-/** A permutation as an index: its letters, with commas where one is over 9. */
+/** A permutation as an index: its letters, with commas where one is over 9; the identity of one letter in brackets, since S_{1} can be that of s_1. */
 function permutationIndex(words) {
   const letters = words.map(plainNumber);
-  return letters.join(letters.some((it) => it.length > 1) ? "," : "");
+  return letters.join() === "1" ? "[1]" : letters.join(letters.some((it) => it.length > 1) ? "," : "");
 }
 
 const schur = (words) => `s_{${shown(words)}}`;
@@ -78,10 +78,13 @@ function argumentsOf(line) {
   return (name) => parts.filter((it) => it.role === name || it.name === name).map((it) => it.words);
 }
 
+/** A text with the projective space for a Gr(1,n), which can be the lines of another one. */
+const inProjective = (text) => text.replace(/Gr\(1,(\d+)\)/, (_, n) => `P^${n - 1}`);
+
 /** What a command computes, from its arguments. */
 function computed(name, of) {
   const { computed, equation } = GRAMMAR.get(name);
-  return filled(computed ?? equation.join(""), of);
+  return inProjective(filled(computed ?? equation.join(""), of));
 }
 
 /** What is asked for of an answer, from the arguments of its command. */
@@ -89,7 +92,7 @@ const ASKED = {
   K: ({ of, at }) => `K_{${shown(of)},${shown(at)}}`,
   f: ({ of }) => `f^{${shown(of)}}`,
   χ: ({ of, at }) => `χ^{${shown(of)}}_{${shown(at)}}`,
-  degree: ({ of }) => `the degree of Gr(${of.length},${of.length + Number(of[0])})`,
+  degree: ({ of }) => inProjective(`the degree of Gr(${of.length},${of.length + Number(of[0])})`),
   c: ({ at }, words) => {
     const [[basis] = [], [text] = []] = [words("basis")[0], words("expression")[0]], isQuantum = words("columns").length > 0;
     if (basis) return `the coefficient of ${basis}_{${shown(at)}} in ${text ? shownExpression(text) : computed("plethysm", words).replace(/ in the basis .$/, "")}`;

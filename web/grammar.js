@@ -172,6 +172,35 @@ function isInside(inner, outer) {
   return inner.every((it, i) => Number(it) <= Number(outer[i] || 0));
 }
 
+/** The conjugate of a partition. */
+function conjugate(list) {
+  const most = Number(list[0] || 0);
+  if (!isDecreasing(list) || most > LIMITS.cells) return null;
+  return Array.from({ length: most }, (_, j) => String(list.filter((it) => Number(it) > j).length));
+}
+
+/** The letters of a product of cycles, the right one first; null if there is none. */
+function cycled(cycles) {
+  const most = Math.max(...cycles.flat().map(Number)), isCycle = (it) => new Set(it).size === it.length && it.every((x) => Number(x) >= 1);
+  if (most > LIMITS.letters || !cycles.every(isCycle)) return null;
+  const moved = (x, it) => (it.includes(x) ? it[(it.indexOf(x) + 1) % it.length] : x);
+  return Array.from({ length: most }, (_, i) => cycles.reduceRight(moved, String(i + 1)));
+}
+
+const inverseOf = (w) => w.map((_, i) => String(w.map(Number).indexOf(i + 1) + 1));
+
+/** The permutation with a code of Lehmer: each number says how many smaller letters come after its letter; null, if it has too many letters. */
+function ofCode(code) {
+  const size = Math.max(...code.map((it, i) => Number(it) + i + 1)), rest = size <= LIMITS.letters ? Array.from({ length: size }, (_, i) => String(i + 1)) : [];
+  return size <= LIMITS.letters ? rest.slice().map((_, i) => rest.splice(Number(code[i] || 0), 1)[0]) : null;
+}
+
+/** Whether the rows of a tableau increase weakly and its columns strictly, after gaps. */
+function isTableau(rows) {
+  const cells = rows.map((row) => row.map((it) => (it === "." ? 0 : Number(it) || NaN)));
+  return cells.every((row, i) => row.every((it, j) => (row[j - 1] ?? 0) <= it && (i === 0 || (it === 0 ? cells[i - 1][j] === 0 : cells[i - 1][j] < it))));
+}
+
 /** Whether the numbers of a command are such as it takes, as far as that is seen here: so an offer is no silly one. */
 function isSound(words) {
   const parts = partsOf(words);

@@ -47,8 +47,6 @@ function meantInstead({ line, typed }) {
   const words = textsOfWords(line), found = lettersApart(line).map((it) => ({ ...it, why: "With its digits apart it is" }));
   const lists = (partsOf(words) || []).filter((it) => it.role === "partition").map((it) => it.words);
   if (["expand", "plethysm"].includes(words[0])) return atomsApart(words);
-  const other = words[0] === "stanley" && !isCommand(textsOfWords(typed)) ? [...words.slice(0, 3), ...inverseOf(words.slice(3))].join(" ") : line;
-  if (other !== line) found.push({ line: other, why: "Some authors call it that of the inverse. With their convention it is" });
   if (words[0] === "coef" && found.length === 0) found.push(...otherOrder(lists));
   if (words[0] === "quantum" && !/[GP𝔾]|QH/u.test(typed)) {
     const [rows, columns] = words.slice(1, 3).map(Number), other = [words[0], words[1], String(columns - rows), ...words.slice(3)];

@@ -20,13 +20,6 @@ const typedWith = (how, list) => Object.defineProperty([...list], "how", { value
 const isPartition = (list) => list && isDecreasing(list);
 const sizeOfAll = (lists) => sumOf(lists.flat());
 
-/** The conjugate of a partition. */
-function conjugate(list) {
-  const most = Number(list[0] || 0);
-  if (!isDecreasing(list) || most > LIMITS.cells) return null;
-  return Array.from({ length: most }, (_, j) => String(list.filter((it) => Number(it) > j).length));
-}
-
 /** Digits as numbers, or as one number, with an exponent: it is that of the last digit, or of the whole number; without braces it has one digit or all. */
 function digitsWithPower(base, exponent, isBraced) {
   const isCut = !isBraced && exponent.length > 1 && isDigits(exponent), ends = [[exponent, []], ...(isCut ? [[exponent[0], [...exponent.slice(1)]]] : [])];
@@ -34,14 +27,6 @@ function digitsWithPower(base, exponent, isBraced) {
   const apart = ([times, rest]) => (isOne || isApart) && { value: joined([...base.slice(0, -1)], copies(base[base.length - 1], times), rest), digits: isOne ? 0 : 1 };
   const whole = ([times, rest]) => !isOne && isPlain(base) && { value: joined(copies(base, times), rest), digits: isApart ? 2 : 0 };
   return anyOf(...ends.flatMap((it) => [apart(it), whole(it)]));
-}
-
-/** The letters of a product of cycles, the right one first; null if there is none. */
-function cycled(cycles) {
-  const most = Math.max(...cycles.flat().map(Number)), isCycle = (it) => new Set(it).size === it.length && it.every((x) => Number(x) >= 1);
-  if (most > LIMITS.letters || !cycles.every(isCycle)) return null;
-  const moved = (x, it) => (it.includes(x) ? it[(it.indexOf(x) + 1) % it.length] : x);
-  return Array.from({ length: most }, (_, i) => cycles.reduceRight(moved, String(i + 1)));
 }
 
 // ---- expressions
@@ -140,11 +125,10 @@ function scalarProduct(a, b) {
 }
 
 const areLetters = (lists) => lists.length > 0 && lists.every((it) => it && isPermutation(it));
-const inverseOf = (w) => w.map((_, i) => String(w.map(Number).indexOf(i + 1) + 1));
 /** A Stanley symmetric function; without a number of variables in as many as a staircase has rows, which all its partitions are inside: so it is whole. */
-function stanleyOf(w, count) {
-  if (!w || !isPermutation(w) || count === "-m") return null;
-  return reading("stanley -r", plainNumber((count || String(Math.max(1, w.length - 1))).replace("-r ", "")), w);
+function stanleyIn(w, count) {
+  if (!w || !isPermutation(w)) return null;
+  return reading("stanley -r", plainNumber(count || String(Math.max(1, w.length - 1))), w);
 }
 
 // ---- the Grassmannian, and fusion
@@ -158,7 +142,7 @@ const dualOf = (list, space) => (isPartition(list) && isInBox(list, space) ? Arr
 /** A product of classes of Gr(k,n): in its quantum cohomology, or the terms without q of that, which are the ordinary product. */
 function classesIn(given, space) {
   const lists = space && given && given.map((it) => inFull(it, space));
-  if (!areMany(lists) || !lists.every(isPartition)) return null;
+  if (!areMany(lists) || !lists.every(isPartition) || (space.isFitting && !lists.every((it) => isInBox(it, space)))) return null;
   const made = reading("quantum", String(space.rows), String(space.columns), between(lists)), ordinary = asking(made, { kind: "H" }, !lists.every((it) => isInBox(it, space))), isQuantum = space.kind === "quantum";
   // (in H* a sign of the keyboard is its product; with two different signs one can be that of the quantum product)
   return { cup: isQuantum, star: !isQuantum, times: !space.kind, "": true }[given.how] ? eitherOf(ordinary, made) : isQuantum ? made : ordinary;
@@ -199,10 +183,17 @@ function productWithNumbers(options, it) {
   return eitherOf(line, isCount && productOf(it.lists.slice(0, last), `-r ${it.lists[last][0]}`));
 }
 
+/** Tableaux whose rows are typed with slashes, as `12/3`: a row of one number can be one of its digits. The ways that make sense, or that with numbers. */
+function inWays(isSense, tableaux) {
+  const apart = (rows) => (rows.how === "run" ? rows.map((row) => (row.filter((it) => it !== ".").length === 1 ? row.flatMap((it) => [...it]) : row)) : rows);
+  const ways = [tableaux.map(apart), tableaux].filter(isSense);
+  return ways.length > 0 ? ways : [tableaux];
+}
+
 const rowsText = (rows) => (rows.length === 0 ? ["."] : rows.flatMap((it, i) => [...(i > 0 ? ["/"] : []), ...(it.length > 0 ? it : ["."])]));
 
 const MEANINGS = {
-  typedWith, conjugate, timesText, powerOf, variables, kostkaOf, kostkaSkew, standardOf, stanleyOf, boxOf, classesIn, classCoefficient, factorsOf, reading, copies, fusionOf,
+  typedWith, conjugate, timesText, powerOf, variables, kostkaOf, kostkaSkew, standardOf, stanleyIn, boxOf, classesIn, classCoefficient, factorsOf, reading, copies, fusionOf,
   // numbers and lists
   part: (number, times = "1") => (isPlain(number) ? copies(number, times) : null),
   partPower: (number, times) => (isPlain(number) ? eitherOf(copies(number, times), times.length > 1 && isDigits(times) && joined(copies(number, times[0]), [...times.slice(1)])) : null),
@@ -289,6 +280,9 @@ const MEANINGS = {
   inner: (a, b) => scalarProduct(a, b) || scalarProduct(b, a),
   // permutations
   roundPermutation: (list) => eitherOf(list, cycled([list])),
+  // (a list in parentheses as an index is one-line notation, a cycle or a code of Lehmer; 1 is the identity or s_1)
+  orCode: (list) => eitherOf(list, cycled([list]), cycled([list]) && ofCode(list)),
+  orSimple: (w) => eitherOf(w, w.join() === "1" && ["2", "1"]),
   roundPair: (a, b) => eitherOf([a, b], [cycled([a]), cycled([b])]),
   cycles: (all) => eitherOf(cycled(all), cycled([...all].reverse())),
   simple: (all) => eitherOf(...[all, [...all].reverse()].map((it) => cycled(it.map((i) => [i, String(Number(i) + 1)]))), all.length === 1 && all),
@@ -300,13 +294,18 @@ const MEANINGS = {
   schubertProduct: (lists) => (lists.length <= 2 ? MEANINGS.permuted(lists.length === 1 ? "schubert" : "schubmult", lists) : areLetters(lists) ? tooMuch("Two Schubert polynomials are multiplied at a time here.") : null),
   // (as many letters as it has, or more)
   schubertIn: (w, count) => (Number(count) >= w.length - 1 ? w : null),
-  stanleyOrInverse: (w) => (isPermutation(w) ? eitherOf(stanleyOf(w), stanleyOf(inverseOf(w))) : null),
+  // (F_w is of w or of its inverse)
+  stanleyOf: (w, count) => eitherOf(stanleyIn(w, count), isPermutation(w) && stanleyIn(inverseOf(w), count)),
   nextLetter: (last, number) => (Number(number) === Number(last) + 1 ? number : null),
   rskTwice: (a, b) => (a.join() === b.join() ? reading("rsk", a) : null),
-  bareList: (list) => eitherOf(isPartition(list) && reading("coprod", list), isPartition(list) && standardOf(list), ...["rsk", "schubert", "growth"].map((it) => areLetters([list]) && reading(it, list)), areLetters([list]) && stanleyOf(list)),
+  bareList: (list) => eitherOf(isPartition(list) && reading("coprod", list), isPartition(list) && standardOf(list), ...["rsk", "schubert", "growth"].map((it) => areLetters([list]) && reading(it, list)), areLetters([list]) && stanleyIn(list)),
+  lettersOf: (word) => (word.every(isDigits) ? [...word.join("")] : null),
   rsk: (word) => (word.every((it) => Number(it) >= 1) ? reading("rsk", word) : null),
   // the Grassmannian and fusion
   grassmannian: (k, n) => boxOf(k, n - k),
+  grOrLines: (k, n) => eitherOf(boxOf(k, n - k), k === "1" && boxOf("2", n - 1)),
+  // (it counts only where all classes are classes of this Gr(k,n))
+  fitting: (k, n) => (n - k > 0 ? { ...boxOf(k, n - k), isFitting: true } : null),
   subspaces: (k, n) => boxOf(Number(k) + 1, n - k),
   space: (kind, space) => space && { ...space, kind },
   integral: (lists, space) => classCoefficient(MEANINGS.point(), lists, space),
@@ -347,11 +346,11 @@ const MEANINGS = {
   productIn: (it, space, box) => (it && space && (!box || (space.rows === box.rows && space.columns === box.columns)) ? doubtful(it, classesIn(it.lists, space)) : null),
   quantumLeast: (it, rows) => MEANINGS.productIn(it, MEANINGS.space("quantum", boxOf(rows ?? leastRows(it), leastColumns(it)))),
   // tableaux
-  unrsk: (p, q) => reading("unrsk", rowsText(p), "-", rowsText(q)),
-  rectOfSkew: (rows) => {
+  unrsk: (...both) => eitherOf(...inWays(([p, q]) => [p, q].every(isTableau) && isPermutation(q.flat()) && p.every((row, i) => row.length === q[i]?.length), both).map(([p, q]) => reading("unrsk", rowsText(p), "-", rowsText(q)))),
+  rectOfSkew: (typed) => eitherOf(...inWays(([rows]) => isTableau(rows), [typed]).map(([rows]) => {
     const inner = rows.map((it) => String(it.filter((cell) => cell === ".").length)), entries = rows.map((it, i) => it.slice(Number(inner[i])));
-    return inner.some((it) => it !== "0") && !entries.flat().includes(".") ? MEANINGS.shaped("rect", "-", [rows.map((it) => String(it.length)), partition(inner)], entries) : null;
-  },
+    return inner.some((it) => it !== "0") && !entries.flat().includes(".") ? skewOf("rect", [rows.map((it) => String(it.length)), partition(inner)], "", "-", rowsText(entries)) : null;
+  })),
   shaped: (name, sign, shape, tableau) => skewOf(name, shape, "", sign, tableau ? rowsText(tableau) : ""),
   tabNumber: (shape) => asking(skewOf("tab", shape), { kind: "count" }),
   tabContent: (shape, content) => coefOf([...shape, content]),

@@ -567,7 +567,8 @@ AboveOfS = Above OfS -> ofSize 2 1
 Question = χ Above ~( Inside ) -> characterOf  # χ^{31}(22)
   | χ Above ~( Round ) -> characterOf
   | χ Above Lower -> characterOf
-  | χ Lower Above -> characterOf 3 2
+  | χ Lower Above -> characterOf 3 2  # which one is the irreducible?
+  | χ Lower Above -> characterOf
   | χ Lower ~( Inside ) -> characterOf
   | χ Lower ~( Round ) -> characterOf
   | χ ~( Inner ; Inner ) -> characterOf
@@ -588,16 +589,17 @@ Question = χ Above ~( Inside ) -> characterOf  # χ^{31}(22)
   | scalar|hall product of Sum and Sum -> inner
   | inner product of Sum and Sum -> ? inner  # or the internal product
 # ---------------------------------------------------------------- Schubert polynomials
-PSub = Inside -> 1
+PSub = Inside -> orSimple
   | Simple -> simple
-  | Round -> roundPermutation
+  | Round -> orCode
   | Square -> 1
+Digit = NUM -> digits
 Perm "a permutation" = ~_ ~{ PSub } -> 3
-  | ~_ ~NUM -> digits
-  | ~_ ~Round -> roundPermutation
+  | ~_ ~Digit -> orSimple
+  | ~_ ~Round -> orCode
   | ~_ ~Square -> 2
   | ~Square -> 1
-  | ~Round -> roundPermutation
+  | ~Round -> orCode
   | ~( Square ) -> 2
   | ~[ { Inside } ] -> 3
   | ~NUM -> digits
@@ -660,14 +662,14 @@ Question = SPolys -> schubertProduct
   | lrcalc . mult_schubert WOther -> permuted schubmult
   | product of? schubert polynomials of? for? WOther -> permuted schubmult
   | schubert polynomials of? for? OfW? WPerm -> permuted schubert 6
-  | F Perm -> ? stanleyOrInverse  # F_{321}: of Stanley, or fundamental
+  | F Perm -> ? stanleyOf  # F_{321}: of Stanley, or fundamental
   | F Perm InVariables -> ? stanleyOf
-  | Convert? F Perm InSchur -> ? stanleyOrInverse
+  | Convert? F Perm InSchur -> ? stanleyOf
   | Convert Stanley F Perm InSchur? -> stanleyOf 4
   | Convert Stanley of? for? OfW? WPerm InSchur? -> stanleyOf 6
   | Stanley F Perm InSchur -> stanleyOf
   | edelman - greene coefficients|numbers|expansion of? for? OfW? WPerm -> stanleyOf 8
-  | permutation ( Square ) . stanley_symmetric_function ( ) -> ? stanleyOrInverse
+  | permutation ( Square ) . stanley_symmetric_function ( ) -> ? stanleyOf
   | F Perm ~( Letters ) -> ? stanleyOf
   | Stanley F Perm -> stanleyOf
   | Stanley F Perm InVariables -> stanleyOf
@@ -683,10 +685,10 @@ XLetter = x ~_ ~NUM -> 3
 Stanley = stanley symmetric? functions? -> ""
   | stable schubert polynomials -> ""
 # ---------------------------------------------------------------- the Grassmannian
-GrOf "Gr(k,n)" = Gr ( NUM , NUM ) -> grassmannian
+GrOf "Gr(k,n)" = Gr ( NUM , NUM ) -> grOrLines  # Gr(1,3): a plane, or the lines of P^3
   | Gr|G ( NUM , C ~^ ~NUM ) -> grassmannian  # Gr(2,C^5)
   | Gr|G ( NUM , C ~^ ~{ NUM } ) -> grassmannian
-  | grassmannian Gr? ( NUM , NUM ) -> grassmannian
+  | grassmannian Gr? ( NUM , NUM ) -> grOrLines
   | 𝔾 ( NUM , NUM ) -> subspaces  # of projective subspaces, or as Gr
   | grassmannian? G|𝔾 ( NUM , NUM ) -> grassmannian
   | grassmannian? G ( NUM , NUM ) -> subspaces
@@ -1055,14 +1057,16 @@ Shape "a skew shape" = Skew -> 1
 One = AnyList -> 1
   | ( AnyList ) -> 2
 Box = NUM ,? NUM -> boxOf
+BoxOrN = Box -> 1
+  | NUM ,? NUM -> fitting  # 2 4: of k and n-k, or of k and n
 Command = quantum QWhere ,|:? Factors -> productIn 4 2
   | quantum Factors QWhere -> productIn
   | quantum QWhere ,|:? Box Factors -> ? productIn 5 2 4  # the numbers of Gr(k,n) once more
   | quantum Box Factors QWhere -> ? productIn 3 4 2
-  | quantum QBox Factors -> productIn 3 2  # quantum 2 2 (2,1) (2,1)
-  | quantum ( QBox , Call ) -> productIn 5 3
+  | quantum Boxes Factors -> productIn 3 2  # quantum 2 2 (2,1) (2,1)
+  | quantum ( Boxes , Call ) -> productIn 5 3
   | quantum ( QWhere , Call ) -> productIn 5 3
-  | quantum ( QBox ) Factors -> ! productIn 5 3
+  | quantum ( Boxes ) Factors -> ! productIn 5 3
   | quantum NUM Factors -> ! quantumLeast 3 2  # n-k is missing
   | quantum Factors -> ! quantumLeast  # k and n-k are missing
   | fusion NUM NUM Factors -> fusionOf 4 2 3
@@ -1103,14 +1107,14 @@ Command = schubert WPerm -> permuted schubert
   | growth WPerm -> permuted growth
   | schubmult WOther -> permuted schubmult
   | dschubmult WOther -> permuted dschubmult
-  | stanley Opt WPerm -> stanleyOf 3 2
-  | stanley WPerm Opt -> stanleyOf
+  | stanley -r NUM WPerm -> stanleyIn 4 3  # with its option as the program has it
+  | stanley WPerm -r NUM -> stanleyIn
+  | stanley InVariables WPerm -> stanleyOf 3 2
   | stanley ( NUM , WPerm ) -> stanleyOf 5 3
-  | stanley WPerm -> ! stanleyOf
   | rsk Word -> rsk
 Word "a word" = WPerm -> 1
   | w = WPerm -> 3
-  | Blanks -> 1
+  | word? Blanks -> lettersOf  # 11 22: the word 1122, too
   | word InTurn -> 2
   | permutation WPerm -> 2
   | empty word -> list
@@ -1147,8 +1151,9 @@ BRow = NUM -> list
   | BRow ␣NUM -> add
 Slashes = BRow / BRow -> list
   | Slashes / BRow -> add
-OneRow = NUM -> list
-  | Square -> 1
+Run = NUM -> list
+RunRow = Run -> list
+OneRow = Square -> 1
   | Blanks -> 1
 Tableau "a tableau" = [ TRows ] -> 2
   | ( TRows ) -> 2
@@ -1157,8 +1162,9 @@ Tableau "a tableau" = [ TRows ] -> 2
   | ytableau ARows ytableau -> 2
   | tableau { TRows } -> 3
   | tableau ( [ TRows ] ) -> 4  # Sage
-  | Slashes -> 1
-  | [ Slashes ] -> 2
+  | Slashes -> typedWith run  # 12/3: the rows 1 2 and 3, or 12 and 3
+  | [ Slashes ] -> typedWith run
+  | RunRow -> typedWith run
   | OneRow -> list
   | . -> list
 Gap = none|. -> word .
@@ -1178,7 +1184,7 @@ SSlashes = SBlanks / SBlanks -> list
   | SSlashes / SBlanks -> add
 SkewTableau "a skew tableau" = [ SkewRows ] -> 2  # [[None,1],[1,2]], Sage
   | skewtableau ( [ SkewRows ] ) -> 4
-  | SSlashes -> 1
+  | SSlashes -> typedWith run
   | with rows SkewRows -> 3
 RectName = rectification|rectify|rect|jdt of|on|:? -> ""
   | jeu de taquin rectification? of|on|:? -> ""
@@ -1236,6 +1242,7 @@ LrCalc = lrcalc Command -> lrcalc  # lrcalc mult -r2 2 1 - 2 1
   | lrcalc . mult_fusion ( Call2 , NUM , NUM ) -> fusionFor
 Typed = Square -> typedWith index
 QBox = Box -> space quantum
+Boxes = BoxOrN -> space quantum
 Call2 = Typed , Typed -> list
 Question = OfConjugate -> ! expand s  # the Schur function of the conjugate
 OfConjugate = Conjugate -> atom s

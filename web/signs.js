@@ -75,7 +75,7 @@ function withValues(signs) {
     for (at = end; [",", ";", ":", "and"].includes(kindAt(at)); ) at += 1;
   }
   while (["for", "with", "where", "when", "if", "let", "and", ",", ";", ":"].includes(kindAt(front - 1)?.replace(/^\?/, ""))) front -= 1;
-  const others = [...signs.slice(0, Math.max(front, 0)), ...signs.slice(at)], isUsed = values.size > 0 && [...values.keys()].every((name) => others.some((it) => it.kind === name));
+  const others = [...signs.slice(0, Math.max(front, 0)), ...signs.slice(at)], isUsed = values.size > 0 && [...values.keys()].every((name) => others.some((it) => it.kind === name) && !(/[uvw]/.test(name) && others.some((it) => /^(?:χ|character)$/.test(it.kind))));
   // (n^2 is a number, and 2^2 two parts)
   const power = others.find((it, i) => NUMBER_LETTERS.test(it.kind) && values.has(it.kind) && ["^", "sup", "**"].includes(others[i + 1]?.kind) && others[i - 1]?.kind !== "_");
   if (power) return tooMuch(sentence("family place", { name: power.kind })), signs;

@@ -77,11 +77,12 @@ function readTyped(typed) {
   if (!isHidden && (line === "" || isCommand(textsOfWords(line)))) return { line, changes };
   if (line.length > LONGEST) return GRAMMAR.has(textsOfWords(line)[0]) ? { line, changes, unread: { offers: [] } } : unread(line, changes, sentence("long line", { most: LONGEST.toLocaleString("en") }));
   if (isHidden) return unread(asTyped, [], sentence("hidden"), offered(hiddenReadings(asTyped, line)));
-  const { sure, repairs, isCut, why, stop } = readingsOf(line), [first] = sure;
+  const { sure, repairs, isCut, why, stop } = readingsOf(line);
   // (a formula as the page writes it runs, though it is 0 by its sizes)
   const isWritten = (it) => [typedOf(it), computedBy(it.line, it.asked), plainFormula(computedBy(it.line, it.asked))].includes(line);
   const isSure = (it) => !it.isDoubtful && (!it.zero || isWritten(it));
-  if (new Set(sure.map(keyOf)).size === 1 && !isCut && sure.every(isSure)) return { line: first.line, changes, asked: first.asked };
+  const own = sure.filter(isWritten), meant = own.length > 0 ? own : sure;
+  if (new Set(meant.map(keyOf)).size === 1 && !isCut && meant.every(isSure)) return { line: meant[0].line, changes, asked: meant[0].asked };
   if (sure.length > 0) return severalRead(line, changes, offered([...sure, ...(sure.every((it) => it.zero) ? repairs : [])]), isCut);
   if (isCut) return unread(line, changes, why || sentence("beyond"));
   return notRead(line, changes, { offers: offered(repairs.length > 0 ? repairs : withOtherName(line)), stop });
