@@ -11,14 +11,16 @@ function shown(words) {
   return parts.length > 0 ? inRound(parts) : "∅";
 }
 
-/** A permutation as an index: its letters, with commas where one is over 9; the identity of one letter in brackets, since S_{1} can be that of s_1. */
+/** A permutation as an index: its letters, with commas where one is over 9. */
 function permutationIndex(words) {
   const letters = words.map(plainNumber);
-  return letters.join() === "1" ? "[1]" : letters.join(letters.some((it) => it.length > 1) ? "," : "");
+  return letters.join(letters.some((it) => it.length > 1) ? "," : "");
 }
 
 const schur = (words) => `s_{${shown(words)}}`;
-const schubert = (words) => `S_{${permutationIndex(words)}}`;
+/** The same in what a command computes: the identity of one letter in brackets, since S_{1} can be that of s_1. */
+const readIndex = (words) => permutationIndex(words).replace(/^1$/, "[1]");
+const schubert = (words) => `S_{${readIndex(words)}}`;
 
 /** How many of a thing, in words. */
 function countOfThings(number, one, several) {
@@ -53,7 +55,7 @@ const SHOWN = {
   schubert,
   class: (words) => `σ_{${shown(words)}}`,
   plain: ([word]) => plainNumber(word),
-  index: permutationIndex,
+  index: readIndex,
   letters: (words) => words.map(plainNumber).join(" "),
   word: (words) => (words.length === 0 ? "the empty word" : `the word ${inRound(words.map(plainNumber), ", ")}`),
   tableau: (words) => words.map((it) => (/\d/.test(it) ? plainNumber(it) : it)).join(" "),
