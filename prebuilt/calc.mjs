@@ -133,7 +133,7 @@ function moduleBeside() {
   const [packed] = /H4sI[A-Za-z0-9+/]+=*/.exec(page) || [""];
   try {
     const bytes = zlib.gunzipSync(Buffer.from(packed, "base64"));
-    if (crypto.createHash("sha256").update(bytes).digest("hex") === "462092d78e7204eb3c31284c0d3c9ef863376e165989ca8060e9bb218263467a") return bytes;
+    if (crypto.createHash("sha256").update(bytes).digest("hex") === "ec8869b5421f096fe2652c3048bc25840e2193c52caeb311816e946e28285c45") return bytes;
   } catch {
     // (no module, as another one, is not that of this file)
   }
