@@ -94,7 +94,7 @@ def place_of(words: List[str], word: int) -> Tuple[str, str, int]:
 
 # The greatest number of each limit, and why a word of an argument is refused that is of the right form, by the kind of the refusal and by what the argument is.
 MOST = {f"most {name}": said.split(" to ")[-1] for name, (_, said) in TABLE["limits"].items()}
-WHY = {(kind, sort): said for kind, sort, said, _ in TABLE["refusals"]}
+WHY: Dict[Tuple[str, str], str] = {(kind, sort): said for kind, sort, said, _ in TABLE["refusals"]}
 
 
 def why(kind: str, words: List[str], word: int, byte: int) -> str:
