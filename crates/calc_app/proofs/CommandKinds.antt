@@ -14,7 +14,8 @@ use Rattle.one_answer_laws.proofs.OneAnswer.{one_text}
 use Rattle.sym_model.specs.Target.{IsDefinedCoefficient, HasWeight, Meets}
 use Rattle.sym_model.specs.Outcome.{Answers, Expands, MayBeLarge}
 use Rattle.rim_hooks.proofs.TextsInSteps.{quantum_reads-steps, fusion_reads-steps}
-use Rattle.calc_words.specs.WrittenLimits.{IsWritten, KeepsLimits}
+use Rattle.calc_words.specs.Commands.{KeepsLimits}
+use Rattle.calc_words.specs.WrittenLimits.{IsWritten}
 use Rattle.word_laws.proofs.LongestPrefixes.{each_in}
 use Rattle.sym_model.specs.Grammar.{line_entries}
 use Rattle.calc_replies.specs.Computed.{Tells}

@@ -10,7 +10,7 @@ use Rattle.calc_base.proofs.PutsLaws.{Appends-told}
 use Rattle.calc_base.specs.Sink.{SinkSeen, number_after, Appends}
 use Rattle.calc_base.specs.Source.{SourceSeen}
 use Rattle.calc_words.proofs.WrittenCommands.{words_keep}
-use Rattle.calc_words.specs.WrittenLimits.{KeepsLimits}
+use Rattle.calc_words.specs.Commands.{KeepsLimits}
 use Rattle.word_laws.proofs.LongestPrefixes.{some_in, some_out}
 use Rattle.sym_model.proofs.Sums.{Among-append_left}
 use Rattle.sym_model.specs.BatchLine.{BatchLine, too_long, passed_over, spoken, batch_line, lines_of}

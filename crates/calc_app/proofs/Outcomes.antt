@@ -11,7 +11,7 @@ use Rattle.calc_base.specs.Sink.{SinkSeen, Appends, AppendsPrefix}
 use Rattle.calc_base.specs.Source.{SourceSeen}
 use Rattle.sym_model.specs.Grammar.{all_entries, line_entries}
 use Rattle.calc_words.proofs.WrittenCommands.{words_keep}
-use Rattle.calc_words.specs.WrittenLimits.{KeepsLimits}
+use Rattle.calc_words.specs.Commands.{KeepsLimits}
 use Rattle.calc_language.specs.Reading.{IsFaultOf}
 use Rattle.expansion_printer.specs.declared.answer.Answer.{Answer}
 use Rattle.expansion_printer.specs.Answers.{plain_answer}

@@ -20,7 +20,8 @@ use Rattle.calc_words.specs.Reading.{IsRead as IsReadBy}
 use Rattle.calc_words.proofs.CutWords.{first_text}
 use Rattle.calc_words.proofs.Joining.{joined_read}
 use Rattle.calc_words.proofs.WrittenCommands.{words_keep}
-use Rattle.calc_language.specs.Reading.{command_of, entry_named, IsReadAs, IsRead, IsWithinItsLimits}
+use Rattle.calc_words.specs.ReadParts.{entry_named}
+use Rattle.calc_language.specs.Reading.{command_of, IsReadAs, IsRead, IsWithinItsLimits}
 use Rattle.calc_language.proofs.NamedEntries.{IsLed, are_named_apart, each_among, one_named, led_named, unnamed}
 use Rattle.std.proofs.lemmas.Bool.{both_ways}
 

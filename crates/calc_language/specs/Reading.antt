@@ -1,7 +1,6 @@
 -- Correct results of reading the words of a command.
-use Rattle.std.specs.Prelude.{◌≡◌, ℕ, cond, List, [], ◌∷◌, Option, Some, None, Result, Err}
+use Rattle.std.specs.Prelude.{◌≡◌, ℕ, List, [], ◌∷◌, Option, Some, None, Result, Err}
 use Rattle.sym_model.specs.Entry.{Entry}
-use Rattle.sym_model.specs.Polynomial.{same}
 use Rattle.sym_model.specs.Grammar.{all_entries}
 use Rattle.calc_base.specs.declared.words.WordsFault.{WordsFault}
 use Rattle.calc_base.specs.declared.words.WordsFault.TheVariants.{Syntax, Literal, Range, Shape}
@@ -13,15 +12,10 @@ use Rattle.expression_reading.specs.declared.reading.ExpressionFault.TheVariants
 use Rattle.expression_reading.specs.declared.reading.ExpressionFault.TheVariants.{Shape as Misshapen}
 use Rattle.expression_reading.specs.declared.reading.ExpressionFault.TheVariants.{NoMemory as Full}
 use Rattle.calc_words.specs.Reading.{IsRead as IsReadBy}
-use Rattle.calc_words.specs.WrittenLimits.{KeepsLimits}
+use Rattle.calc_words.specs.Commands.{KeepsLimits}
 use Rattle.calc_words.specs.declared.command.Command.{Command}
 pub use Rattle.calc_words.specs.Commands.{command_of}
 pub use Rattle.calc_words.specs.Reading.{IsFaultOf, Accepts, Refuses, GoesWrong}
-
--- the first entry of the list that has this name
-abbrev pub entry_named : List ℕ → List Entry → Option Entry
-entry_named name [] = None
-entry_named name (e ∷ entries) = cond (same name e.name) (Some e) (entry_named name entries)
 
 -- the result of reading the words is correct for the entry, if there is one; without an entry, it is the refusal with an error of syntax at byte 0 of
 -- word 0

@@ -1,7 +1,8 @@
 //! Reading of words as those of the command with a given name.
 ghost use Rattle.std.specs.Prelude.{map, string_bytes};
 ghost use Rattle.sym_model.specs.Grammar.{all_entries};
-ghost use Rattle.calc_language.specs.Reading.{IsReadAs, entry_named};
+ghost use Rattle.calc_words.specs.ReadParts.{entry_named};
+ghost use Rattle.calc_language.specs.Reading.{IsReadAs};
 
 use crate::Command;
 use crate::expand::read_expand;

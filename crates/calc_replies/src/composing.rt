@@ -8,7 +8,7 @@ ghost use Rattle.sym_model.specs.Plethysm.{plethysm as plethysm_of, plethysm_wei
 ghost use Rattle.sym_model.specs.Weight.{numerator};
 ghost use Rattle.sparse_polys.specs.LabelSizes.{AreWithin};
 ghost use Rattle.expression_reading.specs.Trees.{basis_of, tree_of};
-ghost use Rattle.calc_words.specs.WrittenLimits.{KeepsLimits};
+ghost use Rattle.calc_words.specs.Commands.{KeepsLimits};
 ghost use Rattle.calc_replies.specs.Computed.{IsReplyTo};
 
 use crate::outcome::{Outcome, as_block};

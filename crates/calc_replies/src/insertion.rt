@@ -1,7 +1,7 @@
 //! The answers to the commands `rsk`, `unrsk` and `rect`.
 ghost use Rattle.sym_model.specs.Command as commands;
 ghost use Rattle.calc_words.specs.Pairs.{IsPair};
-ghost use Rattle.calc_words.specs.WrittenLimits.{KeepsLimits};
+ghost use Rattle.calc_words.specs.Commands.{KeepsLimits};
 ghost use Rattle.calc_replies.specs.Computed.{IsReplyTo};
 
 use crate::outcome::Outcome;

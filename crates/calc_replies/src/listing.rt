@@ -7,7 +7,8 @@ ghost use Rattle.sym_model.specs.Outcome.{readings_after};
 ghost use Rattle.sym_model.specs.Partition.{size};
 ghost use Rattle.sym_model.specs.TableauList.{filling_of};
 ghost use Rattle.sym_model.specs.TableauText.{tableau_line, readings_text};
-ghost use Rattle.calc_words.specs.WrittenLimits.{IsInList, KeepsLimits};
+ghost use Rattle.calc_words.specs.Commands.{KeepsLimits};
+ghost use Rattle.calc_words.specs.WrittenLimits.{IsInList};
 ghost use Rattle.calc_replies.specs.Computed.{IsReplyTo, listing_text};
 
 use crate::outcome::Outcome;

@@ -1,6 +1,6 @@
 //! The answers to the commands `schubert`, `schubmult`, `dschubmult` and `stanley`.
 ghost use Rattle.sym_model.specs.Command as commands;
-ghost use Rattle.calc_words.specs.WrittenLimits.{KeepsLimits};
+ghost use Rattle.calc_words.specs.Commands.{KeepsLimits};
 ghost use Rattle.calc_replies.specs.Computed.{IsReplyTo};
 
 use crate::outcome::{Outcome, as_block};

@@ -1,14 +1,14 @@
 //! The answers to the commands `mult`, `skew`, `coef` and `coprod`.
 ghost use Rattle.sym_model.specs.Command as commands;
-ghost use Rattle.calc_words.specs.WrittenLimits.{KeepsLimits};
+ghost use Rattle.calc_words.specs.Commands.{KeepsLimits};
 ghost use Rattle.calc_replies.specs.Computed.{IsReplyTo};
 
 use crate::form::{Form, asked_form};
 use crate::outcome::{Outcome, answered, as_block};
 use calc_base::{Basis, NoMemory, SumFault};
 use expansion_printer::Answer;
-use lr_product::mult_all;
 use partitions::{Factors, Partition};
+use schur_products::mult_all;
 use std::alloc::Global;
 
 /// The outcome of `mult`: the product of Schur functions, or `Large` if it is too large. If `rows`
@@ -58,7 +58,7 @@ pub(crate) fn coef(
     ensures { IsReplyTo (commands.coef outer.now left.now right.now) result }
 {
     answered(
-        lr_product::coef(alloc, outer, left, right).map(|value| Answer::Number { value }),
+        lr_coefficient::coef(alloc, outer, left, right).map(|value| Answer::Number { value }),
         Form::Block,
     )
 }

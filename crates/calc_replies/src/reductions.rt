@@ -1,6 +1,6 @@
 //! The answers to the commands `quantum` and `fusion`.
 ghost use Rattle.sym_model.specs.Command as commands;
-ghost use Rattle.calc_words.specs.WrittenLimits.{KeepsLimits};
+ghost use Rattle.calc_words.specs.Commands.{KeepsLimits};
 ghost use Rattle.calc_replies.specs.Computed.{IsReplyTo};
 
 use crate::form::Form;

@@ -1,6 +1,6 @@
 -- Words are read as a command of the calculator. The result is a command, or a fault (`WordsFault`), which reports an error of syntax or the first
 -- error of a number. The lemmas are about correct results for one command, and about the first error of xs ++ ys, for lists of errors xs and ys.
-use Rattle.std.proofs.Common.{◌≡◌, ℕ, ◌+◌, ◌-◌, map, Option, List, [], ◌∷◌, ◌++◌, length, sym, ap, ◌∙◌, subst, Some, None, Result, Ok, Err, inl, rules}
+use Rattle.std.proofs.Common.{◌≡◌, ℕ, ◌+◌, map, Option, List, [], ◌∷◌, ◌++◌, length, sym, ap, ◌∙◌, subst, Some, None, Result, Ok, Err, inl, rules}
 use Rattle.std.proofs.lemmas.List.{length-map}
 use Rattle.sym_model.specs.ExpressionOffence.{literal, range, shape}
 use Rattle.sym_model.specs.Form.{Has}

@@ -1,12 +1,8 @@
 -- Words that are divided into the parts of a command (`AreCut`): the values that they denote.
-use Rattle.std.proofs.Common.{◌≡◌, ℕ, ◌+◌, List, [], ◌∷◌, drop, length, refl, ap, ◌∙◌, Ok, inl, rules}
+use Rattle.std.proofs.Common.{◌≡◌, ℕ, ◌+◌, List, [], ◌∷◌, drop, length, refl, ap, ◌∙◌, rules}
 use Rattle.std.proofs.lemmas.List.{append-nil}
 use Rattle.sym_model.specs.Form.{Written, May, Has, words_of}
-use Rattle.sym_model.specs.WordForms.{the}
 use Rattle.word_laws.specs.Words.{Words}
-use Rattle.calc_words.specs.Commands.{command_of, IsSound}
-use Rattle.calc_words.specs.declared.command.Command.{Command as Read}
-use Rattle.calc_words.specs.Reading.{IsRead}
 use Rattle.calc_words.specs.Parts.{form_of_part, form_of, command_form, IsCut, written_of, AreCut}
 use Rattle.calc_words.specs.declared.word_parts.Part.{Part}
 use Rattle.calc_words.proofs.CutWords.{dropped}
@@ -45,8 +41,3 @@ has_of name ps places words k = record {
       ∙ ap (λ us. name ∷ us) (cut_spelled ps 0 1 places words k.parts)
       ∙ said_spelled name ps (written_of ps 0 1 places words k.parts);
 }
-
--- if the words are only the name of a command, the command that is spelled by its name alone is a correct result of reading them
-pub name_read : (name : List ℕ) (places : List ℕ) (words : Words) → AreCut name [] places words → (c : Read) → IsSound c
-    → IsRead (record { name = name; form = the name; says = λ x. command_of c; offends = λ x. [] } ∷ []) words (Ok c)
-name_read name places words k c i = (inl (record { has = has_of name [] places words k; says_it = refl; no_offence = refl }), i)

@@ -1,24 +1,22 @@
 -- The parts of the words of a command are read one after another. The value of each part is what its words denote, and the first part with an error
 -- has the first error of the command.
-use Rattle.std.proofs.Common.{◌≡◌, ℕ, zero, suc, ◌+◌, ◌<◌, List, [], ◌∷◌, map, length, refl, sym, ap, ap₂, ◌∙◌, subst, arith, None, Result, Ok, Err, inl, inr}
-use Rattle.std.specs.Prelude.{slice_index_or, IsErrAnd}
+use Rattle.std.proofs.Common.{◌≡◌, ℕ, zero, suc, ◌+◌, ◌<◌, List, [], ◌∷◌, length, refl, sym, ap, ◌∙◌, subst, arith, Option, Some, None, Result, Ok, Err, inl, inr}
+use Rattle.std.specs.Prelude.{slice_index_or, IfErr}
 use Rattle.std.proofs.lemmas.Bool.{ltb-true}
 use Rattle.sym_model.specs.Command.{Command}
-use Rattle.sym_model.specs.CommandOffence.{first_offence}
+use Rattle.sym_model.specs.CommandOffence.{Offence, first_offence}
 use Rattle.sym_model.specs.Entry.{Entry, SpellsWithoutOffence}
-use Rattle.sym_model.specs.Form.{Written, May, Has, sequence, words_of}
-use Rattle.sym_model.specs.Grammar.{entry}
-use Rattle.sym_model.specs.WordForms.{the}
+use Rattle.sym_model.specs.Form.{Form, Written, May, words_of}
+use Rattle.sym_model.specs.Grammar.{all_entries}
 use Rattle.word_laws.specs.Words.{Words}
 use Rattle.calc_base.specs.declared.words.WordsFault.{WordsFault}
-use Rattle.calc_words.specs.declared.command.Command.{Command as Read}
-use Rattle.calc_words.specs.Reading.{IsRead, IsRefusal, IsFirst, IsJudged}
-use Rattle.calc_words.specs.Parts.{part_of, form_of_part, form_of, part_offends, IsPiece, IsCut, written_of, AreCut, IsFirstOf, AreFine}
-use Rattle.calc_words.specs.ReadParts.{FineTo, marks, after, AreFineTo, IsNext, IsPartRead}
+use Rattle.calc_words.specs.Reading.{IsRefusal, IsFirst, IsJudged}
+use Rattle.calc_words.specs.Parts.{form_of_part, form_of, command_form, part_offends, parts_offend, command_offends, IsPiece, IsCut, written_of, AreCut, IsFirstOf, AreFine}
+use Rattle.calc_words.specs.ReadParts.{entry_named, HasParts, IsRefusalAs, FineTo, marks, after, AreFineTo, IsNext, IsPartRead}
 use Rattle.calc_words.specs.declared.word_parts.Part.{Part}
 use Rattle.calc_words.specs.declared.word_parts.Part.TheVariants.{Minus, Slash}
 use Rattle.calc_words.proofs.Commands.{first_refused}
-use Rattle.calc_words.proofs.CutCommands.{may_be_cut, cut_spelled}
+use Rattle.calc_words.proofs.CutCommands.{said_of, has_of}
 use Rattle.calc_words.proofs.PartOffences.{parts_faulty, parts_fine}
 
 record IsPartAt (p : Part) (ps : List Part) (i j k : ℕ) (places : List ℕ) (words : Words) (h : IsCut ps j k places words) : Type 0 where
@@ -82,17 +80,33 @@ all_fine [] k x f = tt
 all_fine (p ∷ []) k x f = f
 all_fine (p ∷ q ∷ ps) k x f = (f.0, all_fine (q ∷ ps) _ x.1 f.1)
 
-abbrev has_parts : (name : List ℕ) (ps : List Part) (places : List ℕ) (words : Words) (h : AreCut name ps places words) → Has (sequence (the name) (form_of ps)) words
-has_parts name ps places words h = record {
-  written = (tt, written_of ps 0 1 places words h.parts);
-  allowed = (tt, may_be_cut ps 0 1 places words h.parts);
-  spelled = h.named ∙ ap (λ us. name ∷ us) (cut_spelled ps 0 1 places words h.parts);
-}
-
 found : (p : Part) (name : List ℕ) (ps : List Part) (places : List ℕ) (words : Words) (i : ℕ) → IsNext p name ps places words i
     → (h : AreCut name ps places words) → IsPartAt p ps i 0 1 places words h.parts
 found p name ps places words i next h =
     subst (λ q. IsPartAt q ps i 0 1 places words h.parts) next.is (part_at ps i 0 1 places words h.parts (ltb-true i (length ps) next.within))
+
+offends_said : (name : List ℕ) (ps : List Part) (x : Written (form_of ps)) → command_offends name ps (said_of name ps x) ≡ parts_offend ps 1 x
+offends_said name [] x = refl
+offends_said name (p ∷ ps) x = refl
+
+-- let words be the name and the parts of an entry. A fault that reports the first error of the parts is a correct refusal.
+refused_as : (o : Option Entry) (name : List ℕ) (ps : List Part) (places : List ℕ) (words : Words) → HasParts o name ps
+    → (h : AreCut name ps places words) (fault : WordsFault)
+    → IsFirst (first_offence (parts_offend ps 1 (written_of ps 0 1 places words h.parts))) fault → IsRefusalAs o words fault
+refused_as None name ps places words p h fault f = absurd p
+refused_as (Some e) name ps places words p h fault f =
+    subst (λ (j : (g : Form) × (Written g → List Offence)).
+    (says : Written j.0 → Command) → IsRefusal (record { name = e.name; form = j.0; says = says; offends = j.1 } ∷ []) words fault) (sym p)
+    (λ says. first_refused (record { name = e.name; form = command_form name ps; says = says; offends = command_offends name ps }) words (has_of name ps places words h) fault
+    (subst (λ os. IsFirst (first_offence os) fault) (sym (offends_said name ps (written_of ps 0 1 places words h.parts))) f))
+    e.says
+
+-- a refusal that is correct for each entry with the form of the name and the parts is correct for the entry with these parts
+pub wrong_as : {A : Type 0} (o : Option Entry) (name : List ℕ) (ps : List Part) (words : Words) (r : Result A WordsFault) → HasParts o name ps
+    → IfErr r (λ fault. (e : Entry) → e.form ≡ command_form name ps → IsRefusal (e ∷ []) words fault) → IfErr r (λ fault. IsRefusalAs o words fault)
+wrong_as o name ps words (Ok x) p h = tt
+wrong_as None name ps words (Err fault) p h = absurd p
+wrong_as (Some e) name ps words (Err fault) p h = h e (ap (λ j. j.0) p)
 
 -- let part i be the next part. If a result is correct for what its words denote and for its first error (`IsJudged`), it is a correct result of reading
 -- the part.
@@ -111,36 +125,25 @@ part_read p said name ps places words i next (Ok v) judged = record {
   value = λ k x m q. (judged k x m q).0;
 }
 part_read p said name ps places words i next (Err fault) judged =
-    λ says.
     let h = next.cut in
     let part = found p name ps places words i next h in
-    first_refused (entry name (map part_of ps) says) words (has_parts name ps places words h) fault
+    refused_as (entry_named name all_entries) name ps places words next.named h fault
     (parts_faulty ps 1 (written_of ps 0 1 places words h.parts) fault next.bounded
     (part.faulty fault (judged part.at part.written part.allowed (part.piece i (omega arith))) (next.fine.fine h)))
 
--- if the words are divided into the parts of a command and no part has an error, the words spell the command that the values of the parts spell
-pub all_read : {name : List ℕ} {ps : List Part} {places : List ℕ} {words : Words} (h : AreCut name ps places words)
-    → AreFineTo name ps places words (length ps) → (says : Written (form_of ps) → Command) → (said : Command)
-    → said ≡ says (written_of ps 0 1 places words h.parts) → SpellsWithoutOffence (entry name (map part_of ps) says ∷ []) words said
-all_read {name} {ps} {places} {words} h f says said is =
-    inl (record {
-      has = has_parts name ps places words h;
-      says_it = is;
-      no_offence =
-          parts_fine ps 1 (written_of ps 0 1 places words h.parts) (all_fine ps 1 (written_of ps 0 1 places words h.parts) (f.fine h));
-    })
-
--- a refusal that a reader returns unchanged is a correct result
-pub refused : (r : Result Read WordsFault) (fault : WordsFault) (entries : List Entry) (words : Words) → IsErrAnd r (λ e. e ≡ fault)
-    → IsRefusal entries words fault → IsRead entries words r
-refused (Ok c) fault entries words h k = absurd h
-refused (Err e) fault entries words h k = subst (IsRefusal entries words) (sym h) k
-
--- ---- equal arguments of a command with three or four parts
-
-pub ap₃ : {A B C D : Type 0} (f : A → B → C → D) {a k : A} {b l : B} {c m : C} → a ≡ k → b ≡ l → c ≡ m → f a b c ≡ f k l m
-ap₃ f {a} {k} {b} {l} {c} {m} e g h = ap (λ x. f x b c) e ∙ ap₂ (f k) g h
-
-pub ap₄ : {A B C D E : Type 0} (f : A → B → C → D → E) {a k : A} {b l : B} {c m : C} {d n : D} → a ≡ k → b ≡ l → c ≡ m → d ≡ n
-    → f a b c d ≡ f k l m n
-ap₄ f {a} {k} {b} {l} {c} {m} {d} {n} e g h i = ap (λ x. f x b c d) e ∙ ap₃ (f k) g h i
+-- if the words are divided into the parts of an entry and no part has an error, they spell the command that the values of the parts spell. The
+-- readers here need no more of a command: there is no condition on it (`IsSound`).
+pub all_read : (e : Entry) {name : List ℕ} {ps : List Part} {places : List ℕ} {words : Words} (said : Command) (h : AreCut name ps places words)
+    → AreFineTo name ps places words (length ps) → (says : Written (command_form name ps) → Command)
+    → e ≡ record { name = name; form = command_form name ps; says = says; offends = command_offends name ps }
+    → said ≡ says (said_of name ps (written_of ps 0 1 places words h.parts)) → SpellsWithoutOffence (e ∷ []) words said × Unit {0}
+all_read e {name} {ps} {places} {words} said h f says q is =
+    let x = written_of ps 0 1 places words h.parts in
+    subst (λ (d : Entry). SpellsWithoutOffence (d ∷ []) words said × Unit {0}) (sym q) (
+      inl (record {
+        has = has_of name ps places words h;
+        says_it = is;
+        no_offence = ap first_offence (offends_said name ps x) ∙ parts_fine ps 1 x (all_fine ps 1 x (f.fine h));
+      }),
+      tt,
+    )

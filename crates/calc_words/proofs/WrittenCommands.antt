@@ -11,10 +11,11 @@ use Rattle.sym_model.specs.CommandOffence.{Offence, first_offence, most_factors,
 use Rattle.sym_model.specs.ExpressionOffence.{range}
 use Rattle.sym_model.specs.Entry.{Entry, SpellsFreely, SpellsWithoutOffence}
 use Rattle.sym_model.specs.WordForms.{optional, rows_words, permutation_words, factors_words, from_words, numbers, letters, factors, factor_numbers, row_limit, row_limit_offences, partition}
-use Rattle.sym_model.specs.Grammar.{all_entries, two_partitions, mult_entry, skew_entry, coef_entry, coprod_entry, tab_entry, last_reading, not_listed, from_entries, quantum_entry, fusion_entry, schubert_entry, schubmult_entry, expand_entry, work_entry, rsk_entry, growth_entry, plethysm_entry, dschubmult_entry, stanley_entry}
+use Rattle.sym_model.specs.Grammar.{all_entries, two_partitions, tab_entry, last_reading, not_listed, from_entries, expand_entry, plethysm_entry}
 use Rattle.word_laws.specs.Words.{Words}
 use Rattle.word_laws.proofs.FirstOffences.{first_none}
-use Rattle.calc_words.specs.WrittenLimits.{IsWritten, KeepsLimits, IsInList, IsRowLimit, IsPermutationWithin, IsWrittenPermutation, AreWrittenFactors}
+use Rattle.calc_words.specs.Commands.{KeepsLimits}
+use Rattle.calc_words.specs.WrittenLimits.{IsWritten, IsInList, IsRowLimit, IsPermutationWithin, IsWrittenPermutation, AreWrittenFactors}
 use Rattle.calc_words.proofs.WrittenLetters.{letters_within, written_letters}
 use Rattle.calc_words.proofs.WordJudging.{written_word}
 use Rattle.calc_words.proofs.WrittenExpressions.{no_signs, some_denominators}
@@ -53,24 +54,6 @@ factors_written k (first, (second, others)) h =
     let few = r.0 in
     record { some = omega arith; few = omega (arith, few, l); written = r.1 }
 
-mult_keeps : Keeps mult_entry
-mult_keeps (name, (limit, (form, x))) h = search (rules, none_first, limit_kept, factors_written)
-
-skew_keeps : Keeps skew_entry
-skew_keeps (name, (limit, (form, (outer, (slash, inner))))) h = search (rules, none_first, written, limit_kept)
-
-coef_keeps : Keeps coef_entry
-coef_keeps (name, (outer, (minus, (left, (again, right))))) h = search (rules, none_first, written)
-
-coprod_keeps : Keeps coprod_entry
-coprod_keeps (name, parts) h = written 1 (numbers parts) h
-
-quantum_keeps : Keeps quantum_entry
-quantum_keeps (name, (rows, (columns, x))) h = search (rules, none_first, row_number, factors_written)
-
-fusion_keeps : Keeps fusion_entry
-fusion_keeps (name, (rows, (level, x))) h = search (rules, none_first, row_number, factors_written)
-
 last_kept : (k : ℕ) (outer inner : List ℕ) (after : Written (optional from_words)) → first_offence (not_listed k outer inner after) ≡ None
     → IsInList outer inner (last_reading outer inner after)
 last_kept k outer inner (inl x) h = tt
@@ -100,41 +83,16 @@ short_kept : (k : ℕ) (x : Written permutation_words) → first_offence (permut
     → IsPermutationWithin most_doubled (kept (letters x))
 short_kept k (t, ts) h = letters_within most_doubled k (numbers (t ∷ ts)) (omega arith) (omega arith) h
 
-schubert_keeps : Keeps schubert_entry
-schubert_keeps (name, w) h = letters_kept 1 w h
-
-schubmult_keeps : Keeps schubmult_entry
-schubmult_keeps (name, (left, (minus, right))) h = search (rules, none_first, letters_kept)
-
-dschubmult_keeps : Keeps dschubmult_entry
-dschubmult_keeps (name, (left, (minus, right))) h = search (rules, none_first, short_kept)
-
-growth_keeps : Keeps growth_entry
-growth_keeps (name, w) h = letters_kept 1 w h
-
-stanley_keeps : Keeps stanley_entry
-stanley_keeps (name, ((option, variables), w)) h = search (rules, none_first, row_number, letters_kept)
-
-rsk_keeps : Keeps rsk_entry
-rsk_keeps (name, w) h = written_word 1 (numbers w) h
-
-work_keeps : Keeps work_entry
-work_keeps (name, (lines, seed)) h = search rules
-
 -- if each entry of a list has the property `Keeps`, a command that words spell without an error is within the limits
 pub some_keeps : (entries : List Entry) → EachOf Keeps entries → (words : Words) (c : Command) → SpellsWithoutOffence entries words c → KeepsLimits c
 some_keeps [] k words c h = absurd h
 some_keeps (e ∷ entries) k words c (inl h) = spelled_kept e k.0 words c h
 some_keeps (e ∷ entries) k words c (inr h) = some_keeps entries k.1 words c h
 
-both : {P Q : Type 0} → P → Q → P × Q
-both p q = (p, q)
-
-pub all_keep : EachOf Keeps all_entries
+all_keep : EachOf Keeps all_entries
 all_keep =
-    both mult_keeps (both skew_keeps (both coef_keeps (both coprod_keeps (both tab_keeps (both quantum_keeps (both fusion_keeps (both schubert_keeps
-    (both schubmult_keeps (both expand_keeps (both rsk_keeps (both (λ x h. tt) (both (λ x h. tt) (both growth_keeps
-    (both plethysm_keeps (both dschubmult_keeps (both stanley_keeps (both (λ x h. tt) (both work_keeps tt))))))))))))))))))
+    search (rules, tab_keeps, expand_keeps, plethysm_keeps, none_first, limit_kept, row_number, written, factors_written, letters_kept, short_kept, written_word)
+    parts 64
 
 pub words_keep : (words : Words) (c : Command) → SpellsWithoutOffence all_entries words c → KeepsLimits c
 words_keep words c h = some_keeps all_entries all_keep words c h

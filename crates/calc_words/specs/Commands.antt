@@ -1,11 +1,18 @@
 -- A command of the program (`Command`) corresponds to a command of the definitions (`PlainCommand`), in which partitions and permutations are lists
--- of numbers.
-use Rattle.std.specs.Prelude.{◌≡◌}
+-- of numbers. The limits of a command whose words have no error.
+use Rattle.std.specs.Prelude.{◌≡◌, ◌<◌, ◌≤◌, ◌*◌}
 use Rattle.sym_model.specs.Command.{Command as PlainCommand, mult, skew, coef, coprod, quantum}
 use Rattle.sym_model.specs.Command.{fusion, expand, schubert, schubmult, tab, rsk, unrsk, rect}
 use Rattle.sym_model.specs.Command.{growth, plethysm, dschubmult, stanley, batch, work}
+use Rattle.sym_model.specs.CommandOffence.{most_doubled, most_lines, greatest_seed}
+use Rattle.sym_model.specs.Expression.{degree, denominator}
+use Rattle.sym_model.specs.ExpressionOffence.{degree_limit, plethysm_degree_limit}
+use Rattle.plethysm_laws.specs.PositiveExpression.{HasNoSigns}
 use Rattle.expression_reading.specs.Trees.{basis_of, tree_of}
 use Rattle.calc_words.specs.Pairs.{IsPair}
+use Rattle.calc_words.specs.WrittenLimits.{IsWritten, AreWrittenFactors, IsRowNumber, IsRowLimit}
+use Rattle.calc_words.specs.WrittenLimits.{IsInList, IsWrittenWord, IsPermutationWithin}
+use Rattle.calc_words.specs.WrittenLimits.{IsWrittenPermutation}
 use Rattle.calc_words.specs.declared.command.Command.{Command}
 use Rattle.calc_words.specs.declared.command.Command.TheVariants.{Mult, Skew, Coef, Coprod}
 use Rattle.calc_words.specs.declared.command.Command.TheVariants.{Quantum, Fusion, Expand}
@@ -46,3 +53,29 @@ IsSound _ = Unit {0}
 -- `command` corresponds to the command `plain` of the definitions, and is sound (`IsSound`)
 abbrev pub StandsFor : PlainCommand → Command → Type 0
 StandsFor plain command = (command_of command ≡ plain) × IsSound command
+
+-- the values of the command are within the limits for commands that are given by words, and no fraction has the denominator 0
+abbrev pub KeepsLimits : PlainCommand → Type 0
+KeepsLimits (mult limit one_line factors) = IsRowLimit limit × AreWrittenFactors factors
+KeepsLimits (skew limit one_line outer inner) = IsRowLimit limit × IsWritten outer × IsWritten inner
+KeepsLimits (coef outer left right) = IsWritten outer × IsWritten left × IsWritten right
+KeepsLimits (coprod shape) = IsWritten shape
+KeepsLimits (tab outer inner after) = IsWritten outer × IsWritten inner × IsInList outer inner after
+KeepsLimits (quantum limit columns factors) =
+    IsRowNumber limit × IsRowNumber columns × AreWrittenFactors factors
+KeepsLimits (fusion limit level factors) =
+    IsRowNumber limit × IsRowNumber level × AreWrittenFactors factors
+KeepsLimits (schubert w) = IsWrittenPermutation w
+KeepsLimits (schubmult left right) = IsWrittenPermutation left × IsWrittenPermutation right
+KeepsLimits (expand target one_line e) = (degree e ≤ degree_limit target) × (0 < denominator e)
+KeepsLimits (rsk word) = IsWrittenWord word
+KeepsLimits (growth w) = IsWrittenPermutation w
+KeepsLimits (plethysm target outer inner) =
+    (degree outer ≤ plethysm_degree_limit) × (degree inner ≤ plethysm_degree_limit)
+    × (degree outer * degree inner ≤ plethysm_degree_limit) × HasNoSigns inner
+    × (0 < denominator outer)
+KeepsLimits (dschubmult left right) =
+    IsPermutationWithin most_doubled left × IsPermutationWithin most_doubled right
+KeepsLimits (stanley variables w) = IsRowNumber variables × IsWrittenPermutation w
+KeepsLimits (work lines seed) = (1 ≤ lines) × (lines ≤ most_lines) × (seed ≤ greatest_seed)
+KeepsLimits _ = Unit {0}

@@ -67,6 +67,11 @@ part_offends p = (part_of p).offends
 abbrev pub parts_offend : (ps : List Part) → ℕ → Written (form_of ps) → List Offence
 parts_offend ps = grammar.offends_of (map part_of ps)
 
+-- the errors of the words of a command: those of its parts
+abbrev pub command_offends : (name : List ℕ) (ps : List Part) → Written (command_form name ps) → List Offence
+command_offends name [] x = []
+command_offends name (p ∷ ps) x = parts_offend (p ∷ ps) 1 x.1
+
 -- `piece` is the list of the words of part i, counted from 0, and begins at word k: entry i of `places` is k, and entry i + 1 is the index of the
 -- word after `piece`
 abbrev pub IsPiece : List ℕ → List (List ℕ) → ℕ → ℕ → List (List ℕ) → Type 0

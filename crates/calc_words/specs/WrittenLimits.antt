@@ -1,19 +1,12 @@
--- The limits that hold for the values of a command whose words have no error.
-use Rattle.std.specs.Prelude.{◌≡◌, ◌<◌, ◌≤◌, ℕ, ◌*◌, true, List, length, Option, Some, None}
+-- The limits that hold for the values of the parts of a command whose words have no error.
+use Rattle.std.specs.Prelude.{◌≡◌, ◌≤◌, ℕ, true, List, length, Option, Some, None}
 use Rattle.sym_model.specs.Partition.{IsPartition, size, rows}
 use Rattle.sym_model.specs.GoodTableau.{is_among, lattice_readings}
 use Rattle.sym_model.specs.Permutation.{IsKept}
 use Rattle.sym_model.specs.Sum.{Among}
-use Rattle.sym_model.specs.Expression.{degree, denominator}
-use Rattle.sym_model.specs.ExpressionOffence.{degree_limit, plethysm_degree_limit}
 use Rattle.sym_model.specs.Form.{EachOf}
-use Rattle.plethysm_laws.specs.PositiveExpression.{HasNoSigns}
-use Rattle.sym_model.specs.Command.{Command, mult, skew, coef, coprod, tab, quantum, fusion}
-use Rattle.sym_model.specs.Command.{schubert, schubmult, expand, rsk, growth, plethysm, dschubmult}
-use Rattle.sym_model.specs.Command.{stanley, work}
 use Rattle.sym_model.specs.CommandOffence.{most_parts, most_cells, most_factors, most_permuted}
-use Rattle.sym_model.specs.CommandOffence.{most_doubled, most_letters, greatest_letter, most_rows}
-use Rattle.sym_model.specs.CommandOffence.{most_lines, greatest_seed}
+use Rattle.sym_model.specs.CommandOffence.{most_letters, greatest_letter, most_rows}
 
 -- a partition of at most 64 parts and at most 512 cells
 pub record IsWritten (parts : List ℕ) : Type 0 where
@@ -55,29 +48,3 @@ pub record AreWrittenFactors (factors : List (List ℕ)) : Type 0 where
   pub some : 2 ≤ length factors
   pub few : length factors ≤ most_factors
   pub written : EachOf IsWritten factors
-
--- the values of the command are within the limits for commands that are given by words, and no fraction has the denominator 0
-abbrev pub KeepsLimits : Command → Type 0
-KeepsLimits (mult limit one_line factors) = IsRowLimit limit × AreWrittenFactors factors
-KeepsLimits (skew limit one_line outer inner) = IsRowLimit limit × IsWritten outer × IsWritten inner
-KeepsLimits (coef outer left right) = IsWritten outer × IsWritten left × IsWritten right
-KeepsLimits (coprod shape) = IsWritten shape
-KeepsLimits (tab outer inner after) = IsWritten outer × IsWritten inner × IsInList outer inner after
-KeepsLimits (quantum limit columns factors) =
-    IsRowNumber limit × IsRowNumber columns × AreWrittenFactors factors
-KeepsLimits (fusion limit level factors) =
-    IsRowNumber limit × IsRowNumber level × AreWrittenFactors factors
-KeepsLimits (schubert w) = IsWrittenPermutation w
-KeepsLimits (schubmult left right) = IsWrittenPermutation left × IsWrittenPermutation right
-KeepsLimits (expand target one_line e) = (degree e ≤ degree_limit target) × (0 < denominator e)
-KeepsLimits (rsk word) = IsWrittenWord word
-KeepsLimits (growth w) = IsWrittenPermutation w
-KeepsLimits (plethysm target outer inner) =
-    (degree outer ≤ plethysm_degree_limit) × (degree inner ≤ plethysm_degree_limit)
-    × (degree outer * degree inner ≤ plethysm_degree_limit) × HasNoSigns inner
-    × (0 < denominator outer)
-KeepsLimits (dschubmult left right) =
-    IsPermutationWithin most_doubled left × IsPermutationWithin most_doubled right
-KeepsLimits (stanley variables w) = IsRowNumber variables × IsWrittenPermutation w
-KeepsLimits (work lines seed) = (1 ≤ lines) × (lines ≤ most_lines) × (seed ≤ greatest_seed)
-KeepsLimits _ = Unit {0}

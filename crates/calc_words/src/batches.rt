@@ -4,7 +4,6 @@ ghost use Rattle.sym_model.specs.Grammar.{batch_entry, work_entry};
 ghost use Rattle.calc_words.specs.Reading.{IsRead};
 
 use crate::command::Command;
-use crate::command_cuts::cut;
 use crate::command_words::CommandWords;
 use crate::word_parts::Part;
 use calc_base::WordsFault;
@@ -14,7 +13,7 @@ use calc_base::WordsFault;
 pub fn read_batch(words: &[String]) -> Result<Command, WordsFault>
     ensures { IsRead (batch_entry ∷ []) (map string_bytes words.now) result }
 {
-    cut(words, "batch", &[])?;
+    CommandWords("batch", &[], words).places()?;
     Ok(Command::Batch)
 }
 

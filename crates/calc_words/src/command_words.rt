@@ -1,16 +1,13 @@
 //! The words of a command, whose parts are read one after another.
-ghost use Rattle.std.specs.Prelude.{◌≡◌, ◌≤◌, ◌<◌, [], ◌∷◌, true, Ok, length, map, string_bytes};
-ghost use Rattle.std.specs.Prelude.{IfOk, IfErr};
-ghost use Rattle.sym_model.specs.Command.{Command as PlainCommand};
-ghost use Rattle.sym_model.specs.Form.{Written};
-ghost use Rattle.sym_model.specs.Grammar.{entry};
+ghost use Rattle.std.specs.Prelude.{◌≡◌, ◌≤◌, true, Ok, length, map, string_bytes, IfOk, IfErr};
+ghost use Rattle.sym_model.specs.Grammar.{all_entries};
 ghost use Rattle.sym_model.specs.Permutation.{kept};
 ghost use Rattle.sym_model.specs.PrintedBlock.{decimal_value};
 ghost use Rattle.sym_model.specs.WordForms.{is_one_line, row_limit, partition, numbers, factors};
 ghost use Rattle.sym_model.specs.WordForms.{letters as letters_said};
-ghost use Rattle.calc_words.specs.Parts.{part_of, form_of, is_clear, AreCut};
-ghost use Rattle.calc_words.specs.Reading.{IsRefusal};
-ghost use Rattle.calc_words.specs.ReadParts.{AreFineTo, IsNext, IsPartRead};
+ghost use Rattle.calc_words.specs.Parts.{is_clear, AreCut};
+ghost use Rattle.calc_words.specs.ReadParts.{entry_named, HasParts, IsRefusalAs, AreFineTo};
+ghost use Rattle.calc_words.specs.ReadParts.{IsNext, IsPartRead};
 ghost use Rattle.calc_words.specs.declared.word_parts.Part.TheVariants.{MaybeForm, Rows, MaybeRows};
 ghost use Rattle.calc_words.specs.declared.word_parts.Part.TheVariants.{Bound, Lines, Seed, Shape};
 ghost use Rattle.calc_words.specs.declared.word_parts.Part.TheVariants.{Word as WordPart, Letters};
@@ -43,17 +40,16 @@ impl<'a> CommandWords<'a> {
     /// The places of the parts in the words; or the refusal at the place of the first error of
     /// syntax.
     pub(crate) fn places(&self) -> Result<Places, WordsFault>
-        requires some { 0 < length self.now.1.now }
         requires few { length self.now.1.now ≤ 5 }
         requires clear { is_clear self.now.1.now ≡ true }
+        requires named { HasParts (entry_named self.now.0.now all_entries) self.now.0.now
+            self.now.1.now }
         ensures cut { IfOk result (λ q. AreCut self.entry.now.0.now
             self.entry.now.1.now q (map string_bytes self.entry.now.2.now)) }
         ensures fine { IfOk result (λ q. AreFineTo self.entry.now.0.now
             self.entry.now.1.now q (map string_bytes self.entry.now.2.now) 0) }
         ensures wrong { IfErr result (λ fault.
-            (says : Written (form_of self.entry.now.1.now) → PlainCommand)
-            → IsRefusal (entry self.entry.now.0.now
-            (map part_of self.entry.now.1.now) says ∷ [])
+            IsRefusalAs (entry_named self.entry.now.0.now all_entries)
             (map string_bytes self.entry.now.2.now) fault) }
     {
         cut(self.2, self.0, self.1)

@@ -3,7 +3,7 @@ ghost use Rattle.std.specs.Prelude.{ℕ, List};
 ghost use Rattle.sym_model.specs.Command.{Command};
 ghost use Rattle.sym_model.specs.Entry.{SpellsWithoutOffence};
 ghost use Rattle.sym_model.specs.Grammar.{all_entries};
-ghost use Rattle.calc_words.specs.WrittenLimits.{KeepsLimits};
+ghost use Rattle.calc_words.specs.Commands.{KeepsLimits};
 
 /// A command whose words have no error is within its limits: partitions of at most 64 parts and 512
 /// cells, two to eight factors, permutations of at most 16 letters, words of at most 256 letters

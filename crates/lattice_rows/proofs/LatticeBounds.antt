@@ -1,13 +1,13 @@
 -- The bounds for the next row of a lattice tableau, in lists, and the rows that they allow.
-use Rattle.std.proofs.Common.{◌≡◌, ℕ, zero, suc, ◌+◌, ◌-◌, ◌<◌, ◌≤◌, ◌==◌, ◌⊎◌, inl, inr, nat_le, min, Bool, true, cond, List, [], ◌∷◌, ◌++◌, length, take, drop, get_or, set, append-nil, sym, ap, ◌∙◌, subst, arith}
+use Rattle.std.proofs.Common.{◌≡◌, ℕ, zero, suc, ◌+◌, ◌-◌, ◌<◌, ◌≤◌, ◌==◌, ◌⊎◌, inl, inr, nat_le, min, Bool, true, cond, List, [], ◌∷◌, ◌++◌, length, take, drop, get_or, set, append-nil, length-append, refl, sym, ap, ◌∙◌, subst, arith}
 use Rattle.std.proofs.lemmas.Bool.{cases_lt, lt-leb, le-leb, ne_eqb, eq-eqb}
-use Rattle.std.proofs.lemmas.List.{get_or-set_other, get_or-set_same, get_or-take, length-take-le}
+use Rattle.std.proofs.lemmas.List.{get_or-set_other, get_or-set_same, get_or-take, get_or_append_left, length-take-le}
 use Rattle.sym_model.proofs.Numbers.{zero_either}
 use Rattle.tableau_laws.specs.Grid.{may_precede}
 use Rattle.lr_product.specs.RowExtension.{filled, next_row}
-use Rattle.lattice_rows.specs.LatticeRows.{row_room, least_end, greatest_end, AreBounds, AgreeBelow, CountsEndings}
+use Rattle.lattice_rows.specs.LatticeRows.{row_room, least_end, greatest_end, AreBounds, AgreeBelow, CountsEndings, CountsReached}
 use Rattle.lr_product.proofs.LetterSums.{sum-end}
-use Rattle.lattice_rows.proofs.LatticeFilling.{least_excluded, greatest_excluded}
+use Rattle.lattice_rows.proofs.LatticeFilling.{least_excluded, greatest_excluded, filled-alike}
 
 pub bounds_next : (n m out : ℕ) (μ c ends room least greatest : List ℕ) (r l g : ℕ) → m < length room → m + 1 < length least → m + 1 < length greatest
     → AreBounds n m out μ c ends room least greatest → r ≡ row_room μ c m → l ≡ least_end out μ c (suc m) → g ≡ greatest_end n out μ c ends (suc m) → get_or c m 0 + r < 256
@@ -108,6 +108,59 @@ module _ (n : ℕ) (is_last : Bool) (μ : List ℕ) (f : List ℕ → List ℕ �
           split : (get_or U 0 0 < a) ⊎ (a ≤ get_or U 0 0) → next_row n true out a f (take n c) U ≡ 0
           split (inl p) = past U p (omega arith)
           split (inr p) = zero_either (may_precede nat_le a U) (much (n - 1) (omega arith) o (let b = first_bound out (n - 1) U c (omega arith) in omega arith))
+
+  -- the rows depend on the ends above only by the greatest ends
+  pub row_alike : (out a : ℕ) (U V c : List ℕ) → length U ≡ n → length V ≡ n → n ≤ length c → ((t : ℕ) → t ≤ n → greatest_end n out μ c U t ≡ greatest_end n out μ c V t)
+      → next_row n true out a f (take n c) U ≡ next_row n true out a f (take n c) V
+  row_alike out a U V c u v l same = by (cases_lt a out) (cases_lt (greatest_end n out μ c U n) a)
+    where
+      w : length (take n c) ≡ n
+      w = length-take-le n c l
+
+      z : length (take n c ++ take (n - n) []) + n ≡ n + n
+      z = let y = w in let e = length-append (take n c) (take (n - n) []) in let d : n - n ≡ 0 = omega arith in let g : length {A = ℕ} (take (n - n) []) ≡ 0 = ap (λ k. length {A = ℕ} (take k [])) d in omega arith
+
+      agree : AgreeBelow n (take n c ++ take (n - n) []) c
+      agree = record { agree = λ i q. get_or_append_left (take n c) (take (n - n) []) 0 i (let y = w in omega arith) ∙ get_or-take n c i 0 q }
+
+      by : (a < out) ⊎ (out ≤ a) → (greatest_end n out μ c U n < a) ⊎ (a ≤ greatest_end n out μ c U n) → next_row n true out a f (take n c) U ≡ next_row n true out a f (take n c) V
+      by (inl o) q =
+          zero_either (may_precede nat_le a U) (ends_outside true n out a (drop 1 U) (take n c) f some o)
+          ∙ sym (zero_either (may_precede nat_le a V) (ends_outside true n out a (drop 1 V) (take n c) f some o))
+      by (inr o) (inl q) = let e = same n (omega arith) in row_outside out a U c u l (inr q) ∙ sym (row_outside out a V c v l (inr (omega arith)))
+      by (inr o) (inr q) =
+          let e = same n (omega arith) in
+          row_within out a U c [] u q
+          ∙ filled-alike n is_last μ f counts out n a U V (take n c ++ take (n - n) []) c full u v (omega arith) z agree o same
+          ∙ sym (row_within out a V c [] v (omega arith))
+
+-- each of the ends is lowered to the greatest end of a next row
+record AreLowered (n outside : ℕ) (μ c ends lowered : List ℕ) : Type 0 where
+  is : (t : ℕ) → t < n → get_or lowered (n - suc t) 0 ≡ greatest_end n outside μ c ends (suc t)
+
+-- this does not change the greatest ends
+greatest_lowered : (n out : ℕ) (μ c U V : List ℕ) → AreLowered n out μ c U V → (t : ℕ) → t ≤ n → greatest_end n out μ c U t ≡ greatest_end n out μ c V t
+greatest_lowered n out μ c U V low zero h = refl
+greatest_lowered n out μ c U V low (suc t) h = let e = greatest_lowered n out μ c U V low t (omega arith) in let g = low.is t (omega arith) in omega arith
+
+pub lowered_same : (n out : ℕ) (μ c ends low : List ℕ) (f : List ℕ → List ℕ → ℕ) → n ≤ length c → n ≤ length ends → n ≤ length low → CountsReached n out μ f
+    → ((t : ℕ) → t < n → get_or low (n - suc t) 0 ≡ greatest_end n out μ (take n c) (take n ends) (suc t)) → f (take n c) (take n low) ≡ f (take n c) (take n ends)
+lowered_same n out μ c ends low f h l w reached is =
+    let lows : AreLowered n out μ (take n c) (take n ends) (take n low) = record { is = λ t q. get_or-take n low (n - suc t) 0 (omega arith) ∙ is t q } in
+    sym (reached.alike (take n c) (take n ends) (take n low) (length-take-le n c h) (length-take-le n ends l) (length-take-le n low w)
+    (greatest_lowered n out μ (take n c) (take n ends) (take n low) lows))
+
+-- one pass of the loop that lowers the ends
+pub lowered_next : (n m out : ℕ) (μ c U ends : List ℕ) (e : ℕ) → m < n → n ≤ length ends → ((t : ℕ) → t < m → get_or ends (n - suc t) 0 ≡ greatest_end n out μ c U (suc t))
+    → e ≡ greatest_end n out μ c U (suc m) → (t : ℕ) → t < m + 1 → get_or (set ends (n - 1 - m) e) (n - suc t) 0 ≡ greatest_end n out μ c U (suc t)
+lowered_next n m out μ c U ends e h l before is t q = by (cases_lt t m)
+  where
+    by : (t < m) ⊎ (m ≤ t) → get_or (set ends (n - 1 - m) e) (n - suc t) 0 ≡ greatest_end n out μ c U (suc t)
+    by (inl g) = get_or-set_other ends (n - 1 - m) (n - suc t) e 0 (λ z. absurd (omega arith)) ∙ before t g
+    by (inr g) =
+        let same : t ≡ m = omega arith in
+        let place : n - suc t ≡ n - 1 - m = omega arith in
+        ap (λ i. get_or (set ends (n - 1 - m) e) i 0) place ∙ get_or-set_same ends (n - 1 - m) e 0 (omega arith) ∙ is ∙ ap (λ i. greatest_end n out μ c U (suc i)) (sym same)
 
 -- one pass of a loop over the lengths a of the row, from `low` to `entry`
 pub rows_step : (entry a low old new all x : ℕ) → new ≡ old + cond (entry == a) x 0 → low ≤ a → a < entry + 1 → (low ≤ a → a < entry → old ≡ all) → (entry ≤ a → old ≡ 0) → (a ≡ entry → x ≡ all)

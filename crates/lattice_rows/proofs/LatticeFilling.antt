@@ -1,10 +1,10 @@
 -- A row is added to a sum s of n numbers, in which the letter t + 1 is to occur μ_t times in the end. f may count the ways to complete the sum and the
 -- row (`CountsEndings`): it is 0 if the sum cannot become μ. Here are ends of the row after which every result is 0. If the places of the row are
 -- filled in all ways with letters up to t, `filled` is the sum of f over the results.
-use Rattle.std.proofs.Common.{◌≡◌, ℕ, zero, suc, ◌+◌, ◌-◌, ◌<◌, ◌≤◌, ◌⊎◌, inl, inr, min, max, Bool, true, false, cond, List, [], ◌∷◌, ◌++◌, length, take, drop, get_or, set, length-append, append_assoc, refl, sym, ap, ap₂, subst, ◌∙◌, arith}
+use Rattle.std.proofs.Common.{◌≡◌, ℕ, zero, suc, ◌+◌, ◌-◌, ◌<◌, ◌≤◌, ◌⊎◌, inl, inr, min, max, Bool, true, false, cond, List, [], ◌∷◌, ◌++◌, length, take, drop, get_or, set, length-append, append_assoc, length-drop, take-take, refl, sym, ap, subst, ◌∙◌, arith}
 use Rattle.std.proofs.lemmas.Bool.{cases_lt}
-use Rattle.std.proofs.lemmas.List.{get_or-take, get_or-drop, length-take-le, drop-drop}
-use Rattle.std.proofs.Math.Seq.{take-suc-set}
+use Rattle.std.proofs.lemmas.List.{get_or-take, get_or-drop, length-take-le, drop-drop, take-set}
+use Rattle.std.proofs.Math.Seq.{take-suc-set, get_or-append_seam}
 use Rattle.sym_model.specs.Sum.{sum_by}
 use Rattle.lr_product.specs.Extension.{numbers_from}
 use Rattle.lr_product.specs.RowExtension.{added, filled, least_left, most_left}
@@ -12,6 +12,7 @@ use Rattle.lattice_rows.specs.LatticeRows.{row_room, least_end, greatest_end, Ag
 use Rattle.lr_product.proofs.Pruned.{numbers-zero}
 use Rattle.lr_product.proofs.LetterSums.{sum-step, sum-end}
 use Rattle.lr_product.proofs.RangeSums.{sum-narrowed}
+use Rattle.lr_product.proofs.Ranges.{numbers-ext}
 use Rattle.lr_product.proofs.RowFilling.{length-added, most_within, over_bound}
 use Rattle.lr_product.proofs.RowPruning.{get-added_other, get-added_at}
 
@@ -24,25 +25,10 @@ get-added_before (suc t) i zero (a ∷ s) w h l = refl
 get-added_before (suc t) i (suc j) (a ∷ s) w h l = get-added_before t i j s w (omega arith) (omega arith)
 
 pub get-put_last : (t i x : ℕ) (s : List ℕ) → get_or (added t i s ++ x ∷ []) (length s) 0 ≡ x
-get-put_last t i x [] = ap (λ l. get_or (l ++ x ∷ []) 0 0) (none t)
-  where
-    none : (k : ℕ) → added k i [] ≡ []
-    none zero = refl
-    none (suc k) = refl
-get-put_last zero i x (a ∷ s) = last s
-  where
-    last : (v : List ℕ) → get_or (v ++ x ∷ []) (length v) 0 ≡ x
-    last [] = refl
-    last (b ∷ v) = last v
-get-put_last (suc t) i x (a ∷ s) = get-put_last t i x s
+get-put_last t i x s = ap (λ k. get_or (added t i s ++ x ∷ []) k 0) (sym (length-added t i s)) ∙ get_or-append_seam (added t i s) x [] 0
 
 pub length-put : (t i x : ℕ) (s : List ℕ) → length (added t i s ++ x ∷ []) ≡ suc (length s)
 length-put t i x s = let l = length-append (added t i s) (x ∷ []) in let k = length-added t i s in omega arith
-
-length-rest : (n : ℕ) (s : List ℕ) → n ≤ length s → length (drop n s) ≡ length s - n
-length-rest zero s h = omega arith
-length-rest (suc n) [] h = absurd (omega arith)
-length-rest (suc n) (a ∷ s) h = let e = length-rest n s (omega arith) in omega arith
 
 -- ---- too few places for the missing letters
 
@@ -52,12 +38,16 @@ record MissingLetter (μ c : List ℕ) (t k : ℕ) : Type 0 where
   below : letter < t
   often : get_or c letter 0 + k < get_or μ letter 0
 
+pub outside_within : (out : ℕ) (μ c : List ℕ) (t : ℕ) → out ≤ least_end out μ c t
+outside_within out μ c zero = omega arith
+outside_within out μ c (suc t) = let e = outside_within out μ c t in omega arith
+
 module _ (n : ℕ) (is_last : Bool) (μ : List ℕ) (f : List ℕ → List ℕ → ℕ) (counts : CountsEndings n is_last μ f) where
   -- the letter j + 1 is missing more than E_j times, and the letters that are left do not change this
   kept_short : (out t k j : ℕ) (above s : List ℕ) → t ≤ j → j < n → length s + t ≡ n + n
       → get_or s j 0 + get_or s (n + (n - suc j)) 0 < get_or μ j 0 → filled true n out t k above f s ≡ 0
   kept_short out zero k j above s h l e q =
-      counts.reaches (take n s) (drop n s) j (length-take-le n s (omega arith)) (let r = length-rest n s (omega arith) in omega arith) l
+      counts.reaches (take n s) (drop n s) j (length-take-le n s (omega arith)) (let r = length-drop n s in omega arith) l
       (let a = get_or-take n s j 0 l in let b = get_or-drop n s (n - suc j) 0 in omega arith)
   kept_short out (suc t) k j above s h l e q =
       numbers-zero (λ left. filled true n out t left (drop 1 above) f (added t (k - left) s ++ left ∷ [])) (least_left out t k s) (most_left out t k above + 1 - least_left out t k s)
@@ -223,10 +213,6 @@ module _ (n : ℕ) (is_last : Bool) (μ : List ℕ) (f : List ℕ → List ℕ �
       X : ℕ → ℕ
       X x = filled true n out t x (drop ((n + 1) - t) U) f (added t (k - x) s ++ x ∷ [])
 
-      reach : (j : ℕ) → out ≤ least_end out μ c j
-      reach zero = omega arith
-      reach (suc j) = let e = reach j in omega arith
-
       lows : (i : ℕ) → t ≡ i → least ≤ low
       lows zero is = let a = ap (λ i. least_left out i k s) is in let b = ap (λ i. least_end out μ c i) is in omega arith
       lows (suc i) is =
@@ -234,7 +220,7 @@ module _ (n : ℕ) (is_last : Bool) (μ : List ℕ) (f : List ℕ → List ℕ �
           let b = ap (λ i. row_room μ c i) is in
           let d = agree.agree i (omega arith) in
           let e = agree.agree (suc i) (omega arith) in
-          let r = reach t in
+          let r = outside_within out μ c t in
           omega arith
 
       ends : (i : ℕ) → t ≡ i → end ≤ most + 1
@@ -271,6 +257,23 @@ module _ (n : ℕ) (is_last : Bool) (μ : List ℕ) (f : List ℕ → List ℕ �
           ap (λ z. filled true n out z x (drop ((n + 1) - z) U) f (added t (k - x) s ++ x ∷ [])) is
           ∙ greatest_excluded out i x U (added t (k - x) s ++ x ∷ []) c m u (omega arith) (omega arith) (subst (λ z. AgreeBelow z (added t (k - x) s ++ x ∷ []) c) is agrees) (omega arith) (omega arith)
 
+  -- the ways do not depend on the ends above otherwise than by the greatest ends of the row
+  pub filled-alike : (out t k : ℕ) (U V s c : List ℕ) → length μ ≡ n → length U ≡ n → length V ≡ n → t ≤ n → length s + t ≡ n + n → AgreeBelow t s c → out ≤ k
+      → ((i : ℕ) → i ≤ n → greatest_end n out μ c U i ≡ greatest_end n out μ c V i)
+      → filled true n out t k (drop ((n + 1) - t) U) f s ≡ filled true n out t k (drop ((n + 1) - t) V) f s
+  filled-alike out zero k U V s c m u v h l agree o same = refl
+  filled-alike out (suc t) k U V s c m u v h l agree o same =
+      let low = max (least_end out μ c t) (k - row_room μ c t) in
+      let end = min (greatest_end n out μ c U t) k + 1 in
+      let b = outside_within out μ c t in
+      sym (within_bounds out t k low end U s c m u h l agree o refl refl)
+      ∙ numbers-ext (λ x. filled true n out t x (drop ((n + 1) - t) U) f (added t (k - x) s ++ x ∷ [])) (λ x. filled true n out t x (drop ((n + 1) - t) V) f (added t (k - x) s ++ x ∷ []))
+      low (end - low)
+      (λ x g q.
+      let p = length-put t (k - x) x s in
+      filled-alike out t x U V (added t (k - x) s ++ x ∷ []) c m u v (omega arith) (omega arith) (agree_put t (k - x) x s c (omega arith) agree) (omega arith) same)
+      ∙ within_bounds out t k low end V s c m v h l agree o refl (ap (λ g. min g k + 1) (same t (omega arith)))
+
 -- ---- a state as a list
 
 added-front : (t i : ℕ) (s w : List ℕ) → t < length s → added t i (s ++ w) ≡ added t i s ++ w
@@ -284,19 +287,24 @@ set-added (suc n) t i [] h l = absurd (omega arith)
 set-added (suc n) zero i (a ∷ s) h l = refl
 set-added (suc n) (suc t) i (a ∷ s) h l = ap (λ v. a ∷ v) (set-added n t i s (omega arith) (omega arith))
 
--- i letters t + 1 = u are put into a state, whose row then ends at x for the letters up to t
-pub state_put : (n t u i x : ℕ) (content ends : List ℕ) → u ≡ suc t → t < n → n ≤ length content → n ≤ length ends
-    → take n (set content t (get_or content t 0 + i)) ++ take (n - t) (set ends (n - u) x) ≡ added t i (take n content ++ take (n - u) ends) ++ x ∷ []
-state_put n t u i x content ends is h l e =
-    let one : n - t ≡ suc (n - u) = omega arith in
+-- i letters t + 1 are put into a state with the given ends, whose row then ends at x for the letters up to t
+pub state_put : (n t i x : ℕ) (content ends : List ℕ) → t < n → n ≤ length content
+    → take n (set content t (get_or content t 0 + i)) ++ (ends ++ x ∷ []) ≡ added t i (take n content ++ ends) ++ x ∷ []
+state_put n t i x content ends h l =
     let w = length-take-le n content l in
-    ap₂ ◌++◌ (set-added n t i content h l) (ap (λ k. take k (set ends (n - u) x)) one ∙ take-suc-set ends (n - u) x (omega arith))
-    ∙ sym (append_assoc (added t i (take n content)) (take (n - u) ends) (x ∷ []))
-    ∙ ap (λ v. v ++ x ∷ []) (sym (added-front t i (take n content) (take (n - u) ends) (omega arith)))
+    ap (λ v. v ++ (ends ++ x ∷ [])) (set-added n t i content h l)
+    ∙ sym (append_assoc (added t i (take n content)) ends (x ∷ []))
+    ∙ ap (λ v. v ++ x ∷ []) (sym (added-front t i (take n content) ends (omega arith)))
 
-pub outside_within : (out : ℕ) (μ c : List ℕ) (t : ℕ) → out ≤ least_end out μ c t
-outside_within out μ c zero = omega arith
-outside_within out μ c (suc t) = let e = outside_within out μ c t in omega arith
+-- the end x is put after the first n - u of the ends, u = t + 1, and the others before it stay
+pub put_end : (n t u x : ℕ) (ends old : List ℕ) → u ≡ suc t → t < n → n ≤ length ends → take (n - u) ends ≡ take (n - u) old → take (n - t) (set ends (n - u) x) ≡ take (n - u) old ++ x ∷ []
+put_end n t u x ends old is h l same =
+    let one : n - t ≡ suc (n - u) = omega arith in
+    ap (λ k. take k (set ends (n - u) x)) one ∙ take-suc-set ends (n - u) x (omega arith) ∙ ap (λ v. v ++ x ∷ []) same
+
+pub before_end : (n t u x : ℕ) (ends new : List ℕ) → u ≡ suc t → take (n - t) new ≡ take (n - t) (set ends (n - u) x) → take (n - u) new ≡ take (n - u) ends
+before_end n t u x ends new is same =
+    sym (take-take (n - u) (n - t) new (omega arith)) ∙ ap (take (n - u)) same ∙ take-take (n - u) (n - t) (set ends (n - u) x) (omega arith) ∙ take-set ends (n - u) x
 
 -- one pass of a loop over the numbers less than `end`, which adds X(left) if b is true; and the end of the loop
 pub sum_passed : (b : Bool) (now next start : ℕ) (X : ℕ → ℕ) (left end y : ℕ) → left < end → now + cond b (sum_by X (numbers_from left (end - left))) 0 ≡ start

@@ -2,7 +2,7 @@
 use Rattle.std.proofs.Common.{◌≡◌, ℕ, zero, suc, ◌+◌, ◌-◌, ◌<◌, ◌≤◌, ◌==◌, ◌⊎◌, inl, inr, nat_le, nat_lt, nat_eq, Bool, true, false, cond, List, [], ◌∷◌, ◌++◌, length, take, drop, get_or, refl, sym, ap, ap₂, ◌∙◌, arith}
 use Rattle.std.specs.Cmp.Lexicographic.{pointwise}
 use Rattle.std.proofs.lemmas.Bool.{cases_lt, lt-leb, lt-ltb, le-leb, both_ways, and_from, eqb-true}
-use Rattle.std.proofs.lemmas.List.{get_or-take}
+use Rattle.std.proofs.lemmas.List.{get_or-take, take_all}
 use Rattle.std.proofs.lemmas.Slice.Eq.{bytes_eq-Decides}
 use Rattle.sym_model.specs.Sum.{sum_by}
 use Rattle.sym_model.specs.Partition.{part}
@@ -11,10 +11,10 @@ use Rattle.sym_model.proofs.Numbers.{zero_either}
 use Rattle.tableau_laws.specs.Grid.{pass_by_place, may_precede}
 use Rattle.lr_product.specs.Extension.{numbers_from}
 use Rattle.lr_product.specs.RowExtension.{added, filled, next_row, over_rows, least_left, most_left}
-use Rattle.lattice_rows.specs.LatticeRows.{fills, CountsEndings}
+use Rattle.lattice_rows.specs.LatticeRows.{fills, CountsEndings, CountsReached}
 use Rattle.lr_product.proofs.RowFilling.{take-added, length_put, vanishes-row}
 use Rattle.lattice_rows.proofs.LatticeFilling.{short_below, short_above}
-use Rattle.lattice_rows.proofs.LatticeBounds.{ends_outside}
+use Rattle.lattice_rows.proofs.LatticeBounds.{ends_outside, row_alike}
 
 -- ---- the last row
 
@@ -95,6 +95,21 @@ ways-counts n (a ∷ label) inner μ some full =
           over-first n a label inner μ ν ends (omega arith)
           ∙ row-short n (length label == 0) μ (over_rows n label (drop 1 inner) (fills μ)) rest some full (part inner 1) a ν ends j l m h q;
       full = λ last ν ends differ. absurd (let e = eqb-true (length (a ∷ label)) 0 last in omega arith);
+    }
+
+-- these ways depend on the ends of the row above only by the greatest ends of the next row
+pub ways-reached : (n : ℕ) (label inner μ : List ℕ) → 2 ≤ n → length μ ≡ n → CountsReached n (part inner 1) μ (over_rows n label inner (fills μ))
+ways-reached n [] inner μ some full = record { alike = λ ν U V l u v same. refl }
+ways-reached n (a ∷ label) inner μ some full =
+    let rest = ways-counts n label (drop 1 inner) μ some full in
+    record {
+      alike = λ ν U V l u v same.
+          let e = take_all n ν (omega arith) in
+          over-first n a label inner μ ν U (omega arith)
+          ∙ ap (λ w. next_row n true (part inner 1) a (over_rows n label (drop 1 inner) (fills μ)) w U) (sym e)
+          ∙ row_alike n (length label == 0) μ (over_rows n label (drop 1 inner) (fills μ)) rest some full (part inner 1) a U V ν u v (omega arith) same
+          ∙ ap (λ w. next_row n true (part inner 1) a (over_rows n label (drop 1 inner) (fills μ)) w V) e
+          ∙ sym (over-first n a label inner μ ν V (omega arith));
     }
 
 pub first-part : (i : ℕ) (l : List ℕ) → part (drop i l) 1 ≡ get_or l i 0

@@ -1,6 +1,7 @@
 -- The first row of a lattice tableau: a row above it that is long enough for each letter restricts it as little as no row.
-use Rattle.std.proofs.Common.{◌≡◌, ℕ, zero, suc, ◌+◌, ◌-◌, ◌<◌, ◌≤◌, ◌==◌, ◌⊎◌, inl, inr, nat_le, Bool, true, false, cond, List, [], ◌∷◌, ◌++◌, length, take, drop, get_or, replicate, refl, sym, ap, ◌∙◌, arith}
+use Rattle.std.proofs.Common.{◌≡◌, ℕ, zero, suc, ◌+◌, ◌-◌, ◌<◌, ◌≤◌, ◌==◌, ◌⊎◌, inl, inr, nat_le, Bool, true, false, cond, List, [], ◌∷◌, ◌++◌, length, drop, get_or, replicate, refl, sym, ap, ◌∙◌, arith}
 use Rattle.std.proofs.lemmas.Bool.{cases_lt, lt-leb, le-leb}
+use Rattle.std.proofs.lemmas.List.{length-replicate, take-replicate}
 use Rattle.sym_model.specs.Sum.{sum_by}
 use Rattle.sym_model.specs.Partition.{part}
 use Rattle.lr_product.specs.Extension.{numbers_from, mark}
@@ -50,14 +51,6 @@ long-replicate n b k h = record { long = λ i q. reads n i q }
     reads (suc m) zero q = h
     reads (suc m) (suc i) q = reads m i (omega arith)
 
-length-copies : (n b : ℕ) → length (replicate n b) ≡ n
-length-copies zero b = refl
-length-copies (suc n) b = let e = length-copies n b in omega arith
-
-pub take-copies : (n b : ℕ) → take n (replicate n b) ≡ replicate n b
-take-copies zero b = refl
-take-copies (suc n) b = ap (λ l. b ∷ l) (take-copies n b)
-
 get-copies : (n i : ℕ) → get_or {A = ℕ} (replicate n 0) i 0 ≡ 0
 get-copies zero i = refl
 get-copies (suc n) zero = refl
@@ -99,15 +92,15 @@ module _ (n : ℕ) (is_last : Bool) (μ : List ℕ) (f : List ℕ → List ℕ �
       by (inr o) (inl q) =
           refused n some q
           ∙ sym (sym (first n a some o (rest-long n a (omega arith)) (omega arith))
-          ∙ ap (λ v. next_row n true out a f v (replicate n a)) (sym (take-copies n 0))
-          ∙ row_outside n is_last μ f counts some full out a (replicate n a) (replicate n 0) (length-copies n a) (let e = length-copies n 0 in omega arith)
+          ∙ ap (λ v. next_row n true out a f v (replicate n a)) (sym (take-replicate n n 0 (omega arith)))
+          ∙ row_outside n is_last μ f counts some full out a (replicate n a) (replicate n 0) (length-replicate n a) (let e : length {A = ℕ} (replicate n 0) ≡ n = length-replicate n 0 in omega arith)
           (inr (let e = few-first out n (replicate n a) in omega arith)))
 
 -- the ways to add all rows
 pub start-ways : (n a b : ℕ) (label inner μ : List ℕ) → 2 ≤ n → length μ ≡ n → part inner 1 + get_or μ 0 0 ≤ b
     → over_rows n (a ∷ label) inner (fills μ) (replicate n 0) (replicate n b) ≡ over_rows n (a ∷ label) inner (fills μ) (replicate n 0) []
 start-ways n a b label inner μ some full h =
-    let w = length-copies n 0 in
+    let w : length {A = ℕ} (replicate n 0) ≡ n = length-replicate n 0 in
     over-first n a label inner μ (replicate n 0) (replicate n b) (omega arith)
     ∙ start-row n (length label == 0) μ (over_rows n label (drop 1 inner) (fills μ)) (ways-counts n label (drop 1 inner) μ some full) some full (part inner 1) a b h
     ∙ sym (over-first n a label inner μ (replicate n 0) [] (omega arith))

@@ -1,7 +1,7 @@
 -- The ways that the rule for a product has to complete its start by a label: they are the counts of the product.
 use Rattle.std.proofs.Common.{◌≡◌, ◌⊎◌, inl, inr, ℕ, zero, suc, ◌+◌, ◌-◌, ◌<◌, ◌≤◌, true, cond, List, [], ◌∷◌, length, take, drop, get_or, replicate, refl, sym, ap, ap₂, ◌∙◌, subst, arith}
 use Rattle.std.proofs.lemmas.Bool.{cases_lt, lt-leb}
-use Rattle.std.proofs.lemmas.List.{length-replicate}
+use Rattle.std.proofs.lemmas.List.{length-replicate, take-replicate}
 use Rattle.sym_model.specs.Partition.{IsPartition, Falls, ArePositive, part, rows, size, without_last_zeros}
 use Rattle.sym_model.specs.Bounded.{AreBelow}
 use Rattle.sym_model.specs.Polynomial.{resize}
@@ -16,7 +16,7 @@ use Rattle.lr_product.proofs.GoodCounts.{product_count-other_size}
 use Rattle.lattice_rows.specs.LatticeRows.{fills, row_ways}
 use Rattle.lattice_rows.specs.ProductRule.{IsRule}
 use Rattle.lattice_rows.proofs.LatticeLaws.{over-first}
-use Rattle.lattice_rows.proofs.LatticeStarts.{start-ways, take-copies}
+use Rattle.lattice_rows.proofs.LatticeStarts.{start-ways}
 use Rattle.lattice_rows.proofs.LatticeEnds.{ways-come}
 use Rattle.lattice_rows.proofs.LabelWays.{IsPadded, label_ways, padded_label}
 use Rattle.lattice_rows.proofs.ListedTerms.{AreCounted}
@@ -35,9 +35,9 @@ first-small : (n a : ℕ) (label left right : List ℕ) → 2 ≤ n → length r
     → over_rows n (a ∷ label) left (comes_to right) (replicate n 0) [] ≡ 0
 first-small n a label left right some full positive short large =
     let z : length {A = ℕ} (replicate n 0) ≡ n = length-replicate n 0 in
-    ap (λ s. over_rows n (a ∷ label) left (comes_to right) s []) (sym (take-copies n 0))
+    ap (λ s. over_rows n (a ∷ label) left (comes_to right) s []) (sym (take-replicate n n 0 (omega arith)))
     ∙ sym (ways-come n (a ∷ label) left right (replicate n 0) [] full positive)
-    ∙ ap (λ s. over_rows n (a ∷ label) left (fills right) s []) (take-copies n 0)
+    ∙ ap (λ s. over_rows n (a ∷ label) left (fills right) s []) (take-replicate n n 0 (omega arith))
     ∙ sym (start-ways n a 255 label left right some full short)
     ∙ over-first n a label left right (replicate n 0) (replicate n 255) (omega arith)
     ∙ refused n n (part left 1) a 255 (over_rows n label (drop 1 left) (fills right)) (replicate n 0) (omega arith) large

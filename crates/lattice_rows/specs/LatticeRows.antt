@@ -53,8 +53,13 @@ pub record CountsEndings (n : ℕ) (is_last : Bool) (μ : List ℕ) (f : List �
       → get_or ν j 0 + get_or ends (n - suc j) 0 < get_or μ j 0 → f ν ends ≡ 0
   pub full : is_last ≡ true → (ν ends : List ℕ) → (ν ≡ μ → ⊥) → f ν ends ≡ 0
 
+-- f(ν, ends) depends only on the greatest ends of a next row whose first `outside` places are outside the shape
+pub record CountsReached (n outside : ℕ) (μ : List ℕ) (f : List ℕ → List ℕ → ℕ) : Type 0 where
+  pub alike : (ν U V : List ℕ) → length ν ≡ n → length U ≡ n → length V ≡ n
+      → ((t : ℕ) → t ≤ n → greatest_end n outside μ ν U t ≡ greatest_end n outside μ ν V t) → f ν U ≡ f ν V
+
 -- an entry of a label is less than 256, and after the last row the first n numbers of the sum are those of μ
-pub record IsStep (n : ℕ) (is_last : Bool) (μ : List ℕ) (entry : ℕ) (content : List ℕ) : Type 0 where
+pub record IsRowStep (n : ℕ) (is_last : Bool) (μ : List ℕ) (entry : ℕ) (content : List ℕ) : Type 0 where
   pub below : entry < 256
   pub complete : is_last ≡ true → take n content ≡ take n μ
 

@@ -2,11 +2,12 @@
 //! letter to the least. A row is described by its ends E_t, the numbers of places with a letter of
 //! at most t; places outside the shape have the letter 0.
 ghost use Rattle.std.specs.Prelude.{◌≡◌, ℕ, ◌+◌, ◌-◌, ◌<◌, ◌≤◌, ◌==◌, List, ◌++◌, cond, true, take, drop};
-ghost use Rattle.std.specs.Prelude.{[], min, set, get_or, slice_index, OnOk, IsTrue};
+ghost use Rattle.std.specs.Prelude.{[], min, slice_index, OnOk, IsTrue};
 ghost use Rattle.std.specs.List.{All};
 ghost use Rattle.prefix_walk.specs.Steps.{sum_at};
 ghost use Rattle.lr_product.specs.RowExtension.{filled, next_row};
-ghost use Rattle.lattice_rows.specs.LatticeRows.{AreBounds, AgreeBelow, CountsEndings, IsStep};
+ghost use Rattle.lattice_rows.specs.LatticeRows.{AreBounds, AgreeBelow, CountsEndings};
+ghost use Rattle.lattice_rows.specs.LatticeRows.{CountsReached, IsRowStep};
 
 use calc_base::NoMemory;
 
@@ -15,7 +16,7 @@ pub(crate) const MOST_LETTERS: usize = 8;
 
 /// What the rows added so far leave for the rows below them.
 #[derive(Clone, Copy)]
-pub struct LatticeState {
+pub(crate) struct LatticeState {
     /// How often each of the letters 1, .., n occurs in the rows.
     pub(crate) content: [u8; MOST_LETTERS],
     /// The ends E_(n-1), .., E_0 of the row added last.
@@ -42,6 +43,8 @@ pub(crate) struct Row {
     pub(crate) is_last: bool,
     /// The number of places outside the shape, which is E_0.
     pub(crate) outside: u16,
+    /// The number of places outside the shape in the row below.
+    pub(crate) below: u16,
     /// How often each letter is to occur in all rows.
     pub(crate) content: [u8; MOST_LETTERS],
     /// The state to which the row is added.
@@ -102,12 +105,14 @@ pub(crate) fn add_rows(row: &Row, steps: &mut Vec<(u16, LatticeState)>) -> Resul
         (take row.now.letters row.now.start.ends) row.now.bounds.room row.now.bounds.least
         row.now.bounds.greatest }
     requires short { slice_index row.now.bounds.greatest row.now.letters < 256 }
+    requires below { row.now.below < 256 }
     requires fresh { steps.old.items ≡ [] }
     ensures steps { OnOk result (
-        All (λ step. IsStep row.now.letters row.now.is_last row.now.content step.0 step.1.content)
+        All (λ step. IsRowStep row.now.letters row.now.is_last row.now.content step.0 step.1.content)
         steps.new.items) }
     ensures adds { OnOk result ((a : ℕ) (f : List ℕ → List ℕ → ℕ)
         → CountsEndings row.now.letters row.now.is_last (take row.now.letters row.now.content) f
+        → CountsReached row.now.letters row.now.below (take row.now.letters row.now.content) f
         → sum_at a (λ s. f (take row.now.letters s.content) (take row.now.letters s.ends))
         steps.new.items
         ≡ next_row row.now.letters true row.now.outside a f (take row.now.letters row.now.start.content)
@@ -115,20 +120,21 @@ pub(crate) fn add_rows(row: &Row, steps: &mut Vec<(u16, LatticeState)>) -> Resul
 {
     let low = row.bounds.least[row.letters];
     let end = row.bounds.greatest[row.letters] + 1;
+    let mut reached = row.start;
     for entry in low..end {
-        fill(row, entry, steps, row.start, row.letters, entry)?;
+        fill(row, entry, steps, &mut reached, row.letters, entry)?;
     }
     Ok(())
 }
 
 /// Fills the first `placed` places of the row with letters up to `up_to` in all ways, and adds the
 /// states reached to `steps` with the entry `entry`. `reached` is the state with the greater letters
-/// of the row added. Fails only if memory runs out.
-pub(crate) fn fill(
+/// of the row added; the ends of the other letters are overwritten. Fails only if memory runs out.
+fn fill(
     row: &Row,
     entry: u16,
     steps: &mut Vec<(u16, LatticeState)>,
-    reached: LatticeState,
+    reached: &mut LatticeState,
     up_to: usize,
     placed: u16,
 ) -> Result<(), NoMemory>
@@ -138,24 +144,30 @@ pub(crate) fn fill(
         (take row.now.letters row.now.content) row.now.start.content
         (take row.now.letters row.now.start.ends) row.now.bounds.room row.now.bounds.least
         row.now.bounds.greatest }
-    requires agree { AgreeBelow up_to reached.content row.now.start.content }
+    requires below { row.now.below < 256 }
+    requires agree { AgreeBelow up_to reached.old.content row.now.start.content }
     requires placed { row.now.outside ≤ placed }
     requires short { placed < 256 }
     requires entry { entry < 256 }
     ensures steps { OnOk result (
-        All (λ step. IsStep row.now.letters row.now.is_last row.now.content step.0 step.1.content)
+        All (λ step. IsRowStep row.now.letters row.now.is_last row.now.content step.0 step.1.content)
         steps.old.items
-        → All (λ step. IsStep row.now.letters row.now.is_last row.now.content step.0 step.1.content)
+        → All (λ step. IsRowStep row.now.letters row.now.is_last row.now.content step.0 step.1.content)
         steps.new.items) }
     ensures adds { OnOk result ((a : ℕ) (f : List ℕ → List ℕ → ℕ)
         → CountsEndings row.now.letters row.now.is_last (take row.now.letters row.now.content) f
+        → CountsReached row.now.letters row.now.below (take row.now.letters row.now.content) f
         → sum_at a (λ s. f (take row.now.letters s.content) (take row.now.letters s.ends))
         steps.new.items
         ≡ sum_at a (λ s. f (take row.now.letters s.content) (take row.now.letters s.ends))
         steps.old.items
         + cond (entry == a) (filled true row.now.letters row.now.outside up_to placed
         (drop ((row.now.letters + 1) - up_to) (take row.now.letters row.now.start.ends)) f
-        (take row.now.letters reached.content ++ take (row.now.letters - up_to) reached.ends)) 0) }
+        (take row.now.letters reached.old.content
+        ++ take (row.now.letters - up_to) reached.old.ends)) 0) }
+    ensures content { OnOk result (reached.new.content ≡ reached.old.content) }
+    ensures ends { OnOk result (take (row.now.letters - up_to) reached.new.ends
+        ≡ take (row.now.letters - up_to) reached.old.ends) }
 {
     if up_to == 0 {
         return add_step(row, entry, steps, reached);
@@ -164,58 +176,70 @@ pub(crate) fn fill(
     let low = row.bounds.least[at].max(placed.saturating_sub(row.bounds.room[at]));
     let end = row.bounds.greatest[at].min(placed) + 1;
     for left in low..end {
-        let next = with_letters(reached, at, placed - left, row.letters - up_to, left);
-        fill(row, entry, steps, next, at, left)?;
+        reached.content[at] = row.start.content[at] + (placed - left) as u8;
+        reached.ends[row.letters - up_to] = left as u8;
+        fill(row, entry, steps, reached, at, left)?;
     }
+    reached.content[at] = row.start.content[at];
     Ok(())
 }
 
-/// The state with `count` more letters `at` + 1, in a row with the end `left` for the letters up to
-/// `at`, which is the number at the index `place` of the ends.
-fn with_letters(state: LatticeState, at: usize, count: u16, place: usize, left: u16) -> LatticeState
-    requires inside { at < 8 }
-    requires place { place < 8 }
-    requires room { slice_index state.content at + count < 256 }
-    requires short { left < 256 }
-    ensures content { result.content
-        ≡ set state.content at (slice_index state.content at + count) }
-    ensures ends { result.ends ≡ set state.ends place left }
-{
-    let mut next = state;
-    next.content[at] += count as u8;
-    next.ends[place] = left as u8;
-    next
-}
-
-/// Adds the step with the entry `entry` to the state `reached`; after the last row only if the
-/// content is complete. Fails only if memory runs out.
+/// Adds the step with the entry `entry` to the state `reached`, with its ends lowered; after the
+/// last row only if the content is complete. Fails only if memory runs out.
 fn add_step(
     row: &Row,
     entry: u16,
     steps: &mut Vec<(u16, LatticeState)>,
-    reached: LatticeState,
+    reached: &LatticeState,
 ) -> Result<(), NoMemory>
     requires letters { row.now.letters ≤ 8 }
+    requires below { row.now.below < 256 }
     requires entry { entry < 256 }
     ensures steps { OnOk result (
-        All (λ step. IsStep row.now.letters row.now.is_last row.now.content step.0 step.1.content)
+        All (λ step. IsRowStep row.now.letters row.now.is_last row.now.content step.0 step.1.content)
         steps.old.items
-        → All (λ step. IsStep row.now.letters row.now.is_last row.now.content step.0 step.1.content)
+        → All (λ step. IsRowStep row.now.letters row.now.is_last row.now.content step.0 step.1.content)
         steps.new.items) }
     ensures adds { OnOk result ((a : ℕ) (f : List ℕ → List ℕ → ℕ)
         → CountsEndings row.now.letters row.now.is_last (take row.now.letters row.now.content) f
+        → CountsReached row.now.letters row.now.below (take row.now.letters row.now.content) f
         → sum_at a (λ s. f (take row.now.letters s.content) (take row.now.letters s.ends))
         steps.new.items
         ≡ sum_at a (λ s. f (take row.now.letters s.content) (take row.now.letters s.ends))
         steps.old.items
-        + cond (entry == a) (f (take row.now.letters reached.content)
-        (take row.now.letters reached.ends)) 0) }
+        + cond (entry == a) (f (take row.now.letters reached.now.content)
+        (take row.now.letters reached.now.ends)) 0) }
 {
-    if row.is_last && !is_complete(row, &reached) {
+    if row.is_last && !is_complete(row, reached) {
         return Ok(());
     }
-    steps.push((entry, reached))?;
+    steps.push((entry, lowered(row, reached)))?;
     Ok(())
+}
+
+/// The state with each end lowered to the greatest one that the next row can reach: states that
+/// differ only above it can be completed in the same ways.
+fn lowered(row: &Row, state: &LatticeState) -> LatticeState
+    requires letters { row.now.letters ≤ 8 }
+    requires below { row.now.below < 256 }
+    ensures content { result.content ≡ state.now.content }
+    ensures same { (f : List ℕ → List ℕ → ℕ)
+        → CountsReached row.now.letters row.now.below (take row.now.letters row.now.content) f
+        → f (take row.now.letters result.content) (take row.now.letters result.ends)
+        ≡ f (take row.now.letters state.now.content) (take row.now.letters state.now.ends) }
+{
+    let mut ends = state.ends;
+    let mut end = row.below;
+    for at in 0..row.letters {
+        let missing = u16::from(row.content[at].saturating_sub(state.content[at]));
+        let room = room_of(missing, at, &state.content);
+        end = (end + room).min(u16::from(state.ends[row.letters - 1 - at]));
+        ends[row.letters - 1 - at] = end as u8;
+    }
+    LatticeState {
+        content: state.content,
+        ends,
+    }
 }
 
 /// Whether the content of the state is that of all rows.

@@ -16,7 +16,7 @@ use std::alloc::Global;
 
 /// The rule by which the rows of ν are found one by one.
 #[derive(Drop)]
-pub struct LatticeRows {
+pub(crate) struct LatticeRows {
     /// The number n of letters, from 2 to 8.
     letters: usize,
     /// The number of rows of ν, zeros at the end included.
@@ -31,7 +31,7 @@ impl LatticeRows {
     /// The rule for the product of the Schur polynomials of two partitions, as the inner shape and
     /// the content. `None` unless `content` has 2 to 8 parts and the first parts of both add up to
     /// at most 255.
-    pub fn new(
+    pub(crate) fn new(
         alloc: Global,
         inner: &Partition,
         content: &Partition,
@@ -58,7 +58,7 @@ impl LatticeRows {
     }
 
     /// The state before the first row. The row above it is so long that it restricts no letter.
-    pub fn start(&self) -> LatticeState
+    pub(crate) fn start(&self) -> LatticeState
         ensures content { result.content ≡ replicate 8 0 }
         ensures ends { result.ends ≡ replicate 8 255 }
         ensures ways { (a : ℕ) (label : List ℕ) → 2 ≤ self.now.letters → self.now.letters ≤ 8
@@ -137,10 +137,12 @@ impl Prefixes<LatticeState> for LatticeRows {
         steps: &mut Vec<(u16, LatticeState)>,
     ) -> Result<(), NoMemory> {
         let outside = self.outside(self.rows - (after + 1));
+        let below = self.outside(self.rows - after);
         let row = Row {
             letters: self.letters,
             is_last: after == 0,
             outside,
+            below,
             content: self.content,
             start: *state,
             bounds: bounds_of(self.letters, outside, self.content, *state),

@@ -6,19 +6,21 @@
 //!
 //! From a state, which has the content so far and the ends of the letters in the row above, the
 //! steps of the rule lead to each row that can come next as often as it can be filled, and leave
-//! out only rows that no row below can complete. So the walk of `prefix_walk` counts the lattice
+//! out only rows that no row below can complete. Ends are lowered to what the next row can reach,
+//! so that more states are equal. So the walk of `prefix_walk` counts the lattice
 //! tableaux of all shapes ν/λ, in decreasing lexicographic order of ν. The rule has 2 to 8 letters,
 //! and numbers below 256.
 //!
 //! `product` makes the terms of the product from this walk: the coefficient of each partition is
 //! the count `product_count` of good tableaux, the same as in `lr_product`, and `Large` is returned
-//! only if a coefficient exceeds 2^127 - 1. It returns `None` if the rule does not apply.
+//! only if a coefficient exceeds 2^127 - 1.
+//!
+//! Not proved: when `product` returns `None`. It does so if the rule does not apply; that it does
+//! so only then is not part of its contract.
 #![tactic(auto)]
 
 mod lattice_row;
 mod lattice_rows;
 mod product_terms;
 
-pub use lattice_row::LatticeState;
-pub use lattice_rows::LatticeRows;
 pub use product_terms::product;

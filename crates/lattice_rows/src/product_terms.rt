@@ -8,18 +8,17 @@ ghost use Rattle.lattice_rows.specs.ProductRule.{labelled, AreLimited, AreSmall,
 
 use crate::lattice_row::LatticeState;
 use crate::lattice_rows::LatticeRows;
-use calc_base::SumFault;
+use calc_base::{LIMIT, SumFault};
 use coeff_rings::Int;
 use linear_combinations::Terms;
 use partitions::Partition;
 use prefix_walk::Walk;
 use std::alloc::Global;
 
-/// The cap of the counts: a greater count is replaced by this number.
-const CAP: u128 = 1 << 127;
-
 /// The product of the Schur polynomials of `left` and `right`, expanded in Schur polynomials, in
-/// every number of variables. `None` if the rule by rows does not apply.
+/// every number of variables. `None` if the rule by rows does not apply: unless `right` has 2 to 8
+/// parts and the first parts of both add up to at most 255. The contract does not say when `None`
+/// is returned.
 ///
 /// Returns `Large` only if a coefficient exceeds 2^127 - 1.
 pub fn product(
@@ -67,7 +66,7 @@ fn pairs_of(
     let mut pairs: Vec<(Partition, Int)> = Vec::new(alloc);
     while walk.advance()? {
         let (label, count) = walk.current();
-        if count >= CAP {
+        if count >= LIMIT {
             return Err(SumFault::Large);
         }
         let parts = Partition::from_valid_numbers(alloc, label)?;

@@ -9,7 +9,7 @@ ghost use Rattle.linear_combinations.specs.Gains.{over};
 ghost use Rattle.monk_product.specs.RowPaths.{IsPathFor};
 
 use crate::row_path::RowPath;
-use crate::row_summands::Layers;
+use crate::row_summands::{Layers, likely_terms};
 use crate::row_table::product_by_rows;
 use crate::short_monk::{ShortSum, written_out};
 use calc_base::SumFault;
@@ -20,9 +20,10 @@ use std::alloc::Global;
 use std::cmp::Ordering;
 use transition_walk::transition_places;
 
-/// A product by rows is likely to be faster than the transition rule with n steps if the size of its
-/// plan (`RowPlan`) is at most n³ times this number.
-const SIZE_OF_CUBE: i128 = 1_000_000;
+/// A product by rows is likely to be faster than the transition rule if the size of its plan
+/// (`Layers`), times this number, is at most the square of the size of the steps of the transition
+/// rule (`most_size`).
+const SIZE_IN_SQUARE: usize = 2000;
 
 /// With so many steps of the transition rule, products are computed row by row, whatever the size.
 const MOST_STEPS: usize = 2048;
@@ -37,7 +38,7 @@ struct RowPlan {
 impl RowPlan {
     /// The plan for the product with the Schubert polynomial of `v`. Returns `Large` if there is
     /// none, if there are too many permutations, or if its size is more than `most` (`Layers`).
-    fn of(alloc: Global, v: &Perm, most: i128) -> Result<RowPlan, SumFault>
+    fn of(alloc: Global, v: &Perm, most: usize) -> Result<RowPlan, SumFault>
         ensures { IfOk result (λ plan. IsPathFor v.now plan.path.letters plan.path.rows.items
             plan.path.end) }
     {
@@ -63,14 +64,14 @@ pub(crate) fn product_if_fast(
     } else {
         v
     };
-    let most = most_size(transition_steps(alloc, w)?);
+    let most = most_size(alloc, w)?;
     let sum = product_by_plan(alloc, u, v, most)?;
     Ok(written_out(alloc, sum.sorted_terms()?)?)
 }
 
 /// The product of the Schubert polynomials of two permutations, by the plan of less size. Returns
 /// `Large` also if the sizes of both are more than `most`.
-fn product_by_plan(alloc: Global, u: &Perm, v: &Perm, most: i128) -> Result<ShortSum, SumFault>
+fn product_by_plan(alloc: Global, u: &Perm, v: &Perm, most: usize) -> Result<ShortSum, SumFault>
     ensures value { IfOk result (λ sum. (k : ℕ) (φ : List ℕ → ℤ)
         → over (λ w. pair (schubert_in w k) φ) sum
         ≡ pair (times (schubert_in u.now k) (schubert_in v.now k)) φ) }
@@ -85,29 +86,20 @@ fn product_by_plan(alloc: Global, u: &Perm, v: &Perm, most: i128) -> Result<Shor
     product_by_rows(alloc, &left.path, &left.layers.perms, v, u)
 }
 
-/// The greatest size of a plan by which a product is likely to be faster than by so many steps of
-/// the transition rule.
-fn most_size(steps: usize) -> i128 {
-    if steps >= MOST_STEPS {
-        return i128::MAX;
-    }
-    let steps = steps as i128;
-    SIZE_OF_CUBE
-        .saturating_mul(steps)
-        .saturating_mul(steps)
-        .saturating_mul(steps)
-}
-
-/// The number of steps of the transition rule that expand the Schubert polynomial of `w`; at most
-/// `MOST_STEPS`.
-fn transition_steps(alloc: Global, w: &Perm) -> Result<usize, SumFault> {
+/// The greatest size of a plan by which a product is likely to be faster than by the transition rule
+/// on `w`. The size of the steps of the transition rule is the sum over them of the likely number of
+/// terms (`likely_terms`) by which the permutation of the step is multiplied.
+fn most_size(alloc: Global, w: &Perm) -> Result<usize, SumFault> {
     let mut todo = Vec::new(alloc);
     todo.push(w.copy()?)?;
-    for steps in 0..MOST_STEPS {
+    let mut size: usize = 0;
+    for _ in 0..MOST_STEPS {
         let Some(last) = todo.pop() else {
-            return Ok(steps);
+            return Ok(size.saturating_mul(size) / SIZE_IN_SQUARE);
         };
         if let Some((r, s)) = transition_places(&last) {
+            let degree = w.inversions().saturating_sub(last.inversions());
+            size = size.saturating_add(likely_terms(usize::from(degree)));
             let lower = last.times_swap(r, s)?;
             for cover in lower.covers_down(r)? {
                 add_waiting(&mut todo, cover)?;
@@ -115,7 +107,7 @@ fn transition_steps(alloc: Global, w: &Perm) -> Result<usize, SumFault> {
             add_waiting(&mut todo, lower)?;
         }
     }
-    Ok(MOST_STEPS)
+    Ok(usize::MAX)
 }
 
 /// Adds a permutation to a list in the order in which the transition rule replaces them, from the

@@ -23,9 +23,6 @@ use std::alloc::Global;
 /// of a row are made from.
 pub(crate) const MOST_PERMUTATIONS: usize = 100_000;
 
-/// The greatest number of products that is counted for a summand.
-const MOST_PRODUCTS: i128 = 1 << 100;
-
 /// A summand of a row: `coefficient` times e_d(x_1, .., x_r), for d = `degree` and the number r of
 /// cells of the row, times the value of the rows before it at `perm`.
 #[derive(Drop)]
@@ -239,9 +236,9 @@ pub(crate) struct Layers {
     /// For each number of rows, from 0 on, the permutations at which the value of so many rows is
     /// wanted: in the printed order, each once.
     pub(crate) perms: Vec<Vec<ShortPerm>>,
-    /// The square of the number of all summands, times the number of products of variables and
-    /// summands, one for each row, that lead from all rows to none; 2^127 - 1 if this is more.
-    pub(crate) size: i128,
+    /// The sum over all summands of the likely number of terms (`likely_terms`) of what is multiplied
+    /// for it: the value of the rows before at its permutation.
+    pub(crate) size: usize,
 }
 
 impl Layers {
@@ -258,94 +255,78 @@ impl Layers {
         p: &ShortPerm,
         n: usize,
         rows: &[usize],
-        most: i128,
+        most: usize,
     ) -> Result<Layers, SumFault> {
         let mut perms = Vec::new(alloc);
-        let mut layer: ShortSum = Lin::new(alloc);
-        layer.add_at_label(p, Int::one())?;
-        let mut summands = 0;
+        let mut layer = Vec::new(alloc);
+        layer.push(p.copy()?)?;
         let mut size = 0;
         let mut left = MOST_PERMUTATIONS;
         for i in (0..rows.len()).rev() {
-            let lower = layer_below(alloc, &layer, n, i, rows[i], &mut summands)?;
-            perms.push(perms_of(alloc, layer)?)?;
+            let lower = layer_below(alloc, layer.as_slice(), n, i, rows, &mut size)?;
+            perms.push(layer)?;
             layer = lower;
             left = left.checked_sub(layer.len()).ok_or(SumFault::Large)?;
-            size = size_of(&layer, summands);
             if size > most {
                 return Err(SumFault::Large);
             }
         }
-        perms.push(perms_of(alloc, layer)?)?;
+        perms.push(layer)?;
         perms.reverse();
         Ok(Layers { perms, size })
     }
 }
 
-/// The permutations of the summands at the permutations of `layer`, of the row i, which has `cells`
-/// cells; those of `layer` if there are no cells. The coefficient of a permutation is the number of
-/// products that lead to it, if those of `layer` are (`add_lower`).
+/// The permutations of the summands at the permutations of `layer`, of the row i of `rows`; those of
+/// `layer` if this row has no cells. In the printed order, each once. Adds to `size` what these
+/// summands add to the size of all (`Layers`).
 fn layer_below(
     alloc: Global,
-    layer: &ShortSum,
+    layer: &[ShortPerm],
     n: usize,
     i: usize,
-    cells: usize,
-    summands: &mut i128,
-) -> Result<ShortSum, SumFault> {
-    let mut found = Lin::new(alloc);
-    for (q, count) in layer.iter() {
+    rows: &[usize],
+    size: &mut usize,
+) -> Result<Vec<ShortPerm>, SumFault> {
+    let (before, cells) = (cells_before(i, rows), rows.get(i).copied().unwrap_or(0));
+    let mut found: ShortSum = Lin::new(alloc);
+    for q in layer {
         if cells == 0 {
-            found.add_at_label(q, *count)?;
+            found.add_at_label(q, Int::one())?;
         } else {
-            let lower = row_summands(alloc, q, n, i, cells)?;
-            *summands = summands.saturating_add(lower.len() as i128);
-            add_lower(lower, cells, *count, &mut found)?;
+            for summand in row_summands(alloc, q, n, i, cells)? {
+                let degree = degree_of_value(n, before, &summand.perm);
+                *size = size.saturating_add(likely_terms(degree));
+                found.add_owned(summand.perm, Int::one())?;
+            }
         }
     }
-    Ok(found)
-}
-
-/// Adds to the coefficient of the permutation of each summand of a row with `cells` cells `count`
-/// times the number of products of variables in its elementary polynomial; at most `MOST_PRODUCTS`.
-fn add_lower(
-    summands: Vec<Summand>,
-    cells: usize,
-    count: Int,
-    found: &mut ShortSum,
-) -> Result<(), SumFault> {
-    for summand in summands {
-        let products = subsets(cells, summand.degree) as i128;
-        let products = count.get().saturating_mul(products).min(MOST_PRODUCTS);
-        found.add_owned(summand.perm, Int::new(products))?;
-    }
-    Ok(())
-}
-
-/// The labels of a list, in the printed order.
-fn perms_of(alloc: Global, list: ShortSum) -> Result<Vec<ShortPerm>, SumFault> {
-    let mut perms = Vec::with_capacity(alloc, list.len())?;
-    for (w, _) in list.sorted_terms()? {
+    let mut perms = Vec::with_capacity(alloc, found.len())?;
+    for (w, _) in found.sorted_terms()? {
         perms.push(w)?;
     }
     Ok(perms)
 }
 
-/// The size of the rows down to this layer, with so many summands (`Layers`).
-fn size_of(layer: &ShortSum, summands: i128) -> i128 {
-    let mut products: i128 = 0;
-    for (_, count) in layer.iter() {
-        products = products.saturating_add(count.get());
+/// The number of cells of the first i rows.
+fn cells_before(i: usize, rows: &[usize]) -> usize {
+    let mut cells: usize = 0;
+    for row in rows.iter().take(i) {
+        cells = cells.saturating_add(*row);
     }
-    products.saturating_mul(summands.saturating_mul(summands))
+    cells
 }
 
-/// The number of subsets of `degree` elements of a set of `cells` elements, if no product on the way
-/// is too large.
-fn subsets(cells: usize, degree: usize) -> usize {
-    let mut count: usize = 1;
-    for at in 0..degree.min(cells) {
-        count = count.saturating_mul(cells - at) / (at + 1);
-    }
-    count
+/// The degree of the value of rows with so many cells at q, a permutation of at most n letters: one
+/// less for each pair of letters that stand in order.
+fn degree_of_value(n: usize, cells: usize, q: &ShortPerm) -> usize {
+    let pairs = n.saturating_mul(n.saturating_sub(1)) / 2;
+    cells.saturating_sub(pairs.saturating_sub(q.inversions()))
+}
+
+/// A guess at the number of Schubert polynomials in the product of one of them and a polynomial of
+/// this degree, for a comparison of the ways to multiply.
+pub(crate) fn likely_terms(degree: usize) -> usize {
+    let side = degree.saturating_add(1);
+    side.saturating_mul(side)
 }

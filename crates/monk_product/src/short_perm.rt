@@ -86,6 +86,11 @@ impl ShortPerm {
         len
     }
 
+    /// The number of inversions.
+    pub fn inversions(&self) -> usize {
+        usize::from(self.inversions)
+    }
+
     /// This permutation with the letters at the places `first` and `second`, counted from 0,
     /// exchanged; `None` unless this adds exactly one inversion. It does if and only if the letter
     /// at `first` is smaller than that at `second`, and no letter at a place between them has a

@@ -1,5 +1,5 @@
 -- Two canonical answers to the same command are equal, and so are two texts that are read back as answers to it.
-use Rattle.std.proofs.Common.{◌≡◌, ℕ, ◌+◌, List, Some, refl, sym, ap, ◌∙◌, subst}
+use Rattle.std.proofs.Common.{◌≡◌, ℕ, ◌+◌, List, None, Some, refl, sym, ap, ◌∙◌, subst, rules}
 use Rattle.sym_model.specs.Expansion.{Terms}
 use Rattle.sym_model.specs.Expression.{cleared_value, degree, denominator}
 use Rattle.sym_model.specs.Kind.{Kind, Label, label_rules, number, expansion, product, pairs, powers, permutations}
@@ -7,11 +7,11 @@ use Rattle.sym_model.specs.Kind.{polynomial, shifts}
 use Rattle.sym_model.specs.Canonical.{IsCanonicalBy}
 use Rattle.sym_model.specs.Answer.{Answer, answer}
 use Rattle.sym_model.specs.Command.{Command, mult, skew, coef, coprod, quantum, fusion, schubert, schubmult, expand}
-use Rattle.sym_model.specs.Command.{plethysm, dschubmult, stanley}
+use Rattle.sym_model.specs.Command.{plethysm, dschubmult}
 use Rattle.sym_model.specs.Target.{Meets}
-use Rattle.sym_model.specs.Products.{schur_product}
+use Rattle.sym_model.specs.Polynomial.{Poly}
+use Rattle.sym_model.specs.Products.{ExpandsInSchurs, schur_product}
 use Rattle.sym_model.specs.Schur.{skew_schur}
-use Rattle.sym_model.specs.Stanley.{stanley_in}
 use Rattle.sym_model.specs.Plethysm.{plethysm as plethysm_of}
 use Rattle.sym_model.specs.PrintedForm.{printed_form, answer_text_in}
 use Rattle.sym_model.specs.Headline.{ReadsBack}
@@ -36,8 +36,6 @@ kind_for _ = product
 meets-kind : (command : Command) (kind : Kind) (terms : Terms (Label kind)) → Meets command (answer kind terms)
     → kind ≡ kind_for command
 unfolding kind_for
-meets-kind (mult v o f) product terms m = refl
-meets-kind (skew v o f g) product terms m = refl
 meets-kind (coef f g h) number terms m = refl
 meets-kind (coprod f) pairs terms m = refl
 meets-kind (quantum k c f) powers terms m = refl
@@ -47,8 +45,17 @@ meets-kind (schubmult u v) permutations terms m = refl
 meets-kind (expand t o e) expansion terms m = refl
 meets-kind (plethysm t f g) expansion terms m = refl
 meets-kind (dschubmult u v) shifts terms m = refl
-meets-kind (stanley k w) product terms m = refl
+meets-kind _ product terms m = search rules
 meets-kind _ _ terms m = absurd m
+
+-- two expansions of a symmetric function, in every number of variables and in k variables
+one_list_everywhere : (f : ℕ → Poly) (xs ys : Terms (List ℕ)) → IsCanonicalBy (label_rules product) xs → IsCanonicalBy (label_rules product) ys
+    → ExpandsInSchurs None f xs → ExpandsInSchurs None f ys → xs ≡ ys
+one_list_everywhere = one_schur_list None
+
+one_list_in : (k : ℕ) (f : ℕ → Poly) (xs ys : Terms (List ℕ)) → IsCanonicalBy (label_rules product) xs → IsCanonicalBy (label_rules product) ys
+    → ExpandsInSchurs (Some k) f xs → ExpandsInSchurs (Some k) f ys → xs ≡ ys
+one_list_in k = one_schur_list (Some k)
 
 one_list_for : (command : Command) (xs ys : Terms (Label (kind_for command)))
     → IsCanonicalBy (label_rules (kind_for command)) xs → IsCanonicalBy (label_rules (kind_for command)) ys
@@ -67,8 +74,7 @@ one_list_for (expand t o e) xs ys a b s m k = one_expansion t (cleared_value e) 
 one_list_for (plethysm t f g) xs ys a b s m k =
     one_expansion t (λ n. plethysm_of (cleared_value f) (degree g) n (cleared_value g n)) (denominator f) s xs ys a b m k
 one_list_for (dschubmult u v) xs ys a b s m k = one_double_product u v xs ys a b m k
-one_list_for (stanley n w) xs ys a b s m k = one_schur_list (Some n) (stanley_in w) xs ys a b m k
-one_list_for _ xs ys a b s m k = absurd m
+one_list_for _ xs ys a b s m k = search (one_list_everywhere, one_list_in)
 
 -- what is claimed for the kinds k and l
 abbrev Claim : Command → Kind → Kind → Type 0

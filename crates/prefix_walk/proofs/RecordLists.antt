@@ -1,12 +1,12 @@
 -- Lists of records: their sums, and their order.
-use Rattle.std.proofs.Common.{◌^◌, append_assoc, append-nil, eq-eqb, not, take, true, ◌≡◌, ℕ, zero, suc, ◌+◌, ◌*◌, ◌<◌, ◌≤◌, ◌==◌, Bool, cond, List, [], ◌∷◌, ◌++◌, length, get_or, set, refl, sym, ap, ap₂, ◌∙◌, subst, arith}
+use Rattle.std.proofs.Common.{◌^◌, append_assoc, eq-eqb, not, take, true, ◌≡◌, ℕ, zero, suc, ◌+◌, ◌*◌, ◌<◌, ◌≤◌, ◌==◌, Bool, cond, List, [], ◌∷◌, ◌++◌, length, get_or, set, refl, sym, ap, ap₂, ◌∙◌, subst, arith}
 use Rattle.std.specs.Prelude.{Option, Some, None, MatchOption, slice_get}
 use Rattle.std.specs.Option.{option_eq}
 use Rattle.std.specs.Map.{keys_of}
 use Rattle.std.specs.List.{All}
 use Rattle.std.specs.List.Sorted.{IsNonDecreasingBy, IsPermutation}
 use Rattle.std.proofs.lemmas.List.Sorted.{All-permutation, sum_by-IsPermutation}
-use Rattle.std.proofs.Math.Nat.{add-mul, mul-add}
+use Rattle.std.proofs.Math.Nat.{add_assoc, add-mul, mul-add}
 use Rattle.std.proofs.lemmas.Bool.{ne_eqb}
 use Rattle.std.proofs.lemmas.List.Sums.{sum_by-cons, sum_by-append, sum_by-set, sum_by_push, fold_more}
 use Rattle.std.proofs.lemmas.List.Elements.{All-nil, All-cons, All-head, All-tail, All-same, All-weaker}
@@ -169,11 +169,8 @@ steps_more {S} a f steps i d now mid start count l s h g =
     fold_more (λ (x : ℕ) (y : ℕ × S). x + if_entry a f y) 0 steps i d l ∙ ap (λ (y : ℕ × S). sum_at a f (take i steps) + if_entry a f y) (sym s) in
     let both = mul-add count (sum_at a f (take i steps)) (if_entry a f d) in
     let whole : start + count * sum_at a f (take i steps) + count * if_entry a f d ≡ start + count * sum_at a f (take (i + 1) steps) =
-    plus start _ _ _ (sym both ∙ ap (λ (x : ℕ). count * x) (sym more)) in
+    add_assoc start _ _ ∙ ap (λ (x : ℕ). start + x) (sym both ∙ ap (λ (x : ℕ). count * x) (sym more)) in
     h ∙ cap_sum mid (start + count * sum_at a f (take i steps)) (count * if_entry a f d) g ∙ ap at_most_cap whole
-  where
-    plus : (x y z w : ℕ) → y + z ≡ w → x + y + z ≡ x + w
-    plus x y z w e = omega arith
 
 -- the last record is taken
 pub taken_more : {S : Type 0} → (a : ℕ) (old now new : List ((ℕ × S) × ℕ)) (r : (ℕ × S) × ℕ) → IsTaken a old now → now ≡ new ++ r ∷ [] → r.0.0 ≡ a → IsTaken a old new
@@ -182,9 +179,6 @@ taken_more {S} a old now new r taken e k = record {
   is = taken.is ∙ ap (λ (l : List ((ℕ × S) × ℕ)). l ++ taken.group) e ∙ append_assoc new (r ∷ []) taken.group;
   entries = All-cons (λ s. s.0.0 ≡ a) r taken.group k taken.entries;
 }
-
-pub taken_none : {S : Type 0} → (a : ℕ) (es : List ((ℕ × S) × ℕ)) → IsTaken a es es
-taken_none a es = record { group = []; is = sym (append-nil es); entries = All-nil (λ r. r.0.0 ≡ a) }
 
 pub weighed_last : {S : Type 0} → (a : ℕ) (f : S → ℕ) (now new : List ((ℕ × S) × ℕ)) (r : (ℕ × S) × ℕ) → now ≡ new ++ r ∷ [] → r.0.0 ≡ a
     → weighed_at a f now ≡ weighed_at a f new + r.1 * f r.0.1

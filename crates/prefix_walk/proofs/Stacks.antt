@@ -78,12 +78,6 @@ module _ (N : Type 0) where
         (subst (λ (q : Option ℕ). rest_at terms n all ≡ option_to_list (option_map (λ (c : ℕ). (label, c)) q) ++ rest_at terms n now) i h)
 
   module _ (node : ℕ → N → Type 0) where
-    sound_room : (n : ℕ) (front : List (N × ℕ)) (level : N × ℕ) → AreSound node n (front ++ level ∷ []) → length front < n
-    sound_room zero [] level h = absurd h
-    sound_room (suc n) [] level h = omega arith
-    sound_room zero (f ∷ front) level h = absurd h
-    sound_room (suc n) (f ∷ front) level h = let i = sound_room n front level h.1 in omega arith
-
     pub sound_front : (n : ℕ) (front t : List (N × ℕ)) → AreSound node n (front ++ t) → AreSound node n front
     sound_front n [] t h = tt
     sound_front zero (f ∷ front) t h = absurd h
@@ -100,7 +94,10 @@ module _ (N : Type 0) where
     sound_join (suc n) m (f ∷ front) t e h g = (h.0, sound_join n m front t (omega arith) h.1 g)
 
     pub room_for : (n : ℕ) (front : List (N × ℕ)) (level : N × ℕ) → AreSound node n (front ++ level ∷ []) → length front < n
-    room_for n front level h = sound_room n front level h
+    room_for zero [] level h = absurd h
+    room_for (suc n) [] level h = omega arith
+    room_for zero (f ∷ front) level h = absurd h
+    room_for (suc n) (f ∷ front) level h = let i = room_for n front level h.1 in omega arith
 
     -- the last level
     pub last_node : (n m : ℕ) (front : List (N × ℕ)) (x : N) (a : ℕ) → n ≡ length front + (m + 1) → AreSound node n (front ++ (x, a) ∷ []) → node m x

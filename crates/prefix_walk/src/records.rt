@@ -9,10 +9,7 @@ ghost use Rattle.prefix_walk.specs.Levels.{at_most_cap, weighed_at, Rise, IsStep
 
 use crate::places::Places;
 use crate::prefixes::Prefixes;
-use calc_base::NoMemory;
-
-/// The cap of the counts: a greater count is replaced by this number.
-const CAP: u128 = 1 << 127;
+use calc_base::{LIMIT, NoMemory};
 
 /// A step, an entry with the state that it leads to, and a count.
 pub(crate) type Record<S> = ((u16, S), u128);
@@ -21,7 +18,7 @@ pub(crate) type Record<S> = ((u16, S), u128);
 pub(crate) fn joined(one: u128, other: u128) -> u128
     ensures { result ≡ at_most_cap (one + other) }
 {
-    one.saturating_add(other).min(CAP)
+    one.saturating_add(other).min(LIMIT)
 }
 
 /// The index, out of the one given, of a record with an equal step.

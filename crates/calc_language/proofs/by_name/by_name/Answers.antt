@@ -2,7 +2,8 @@
 use Rattle.std.proofs.Common.{◌≡◌, map, None, Err, ap, sym, subst}
 use Rattle.std.specs.Prelude.{string_bytes}
 use Rattle.sym_model.specs.Grammar.{all_entries}
-use Rattle.calc_language.specs.Reading.{IsReadAs, entry_named}
+use Rattle.calc_words.specs.ReadParts.{entry_named}
+use Rattle.calc_language.specs.Reading.{IsReadAs}
 use Rattle.calc_language.proofs.Entries.{none_named}
 use Rattle.calc_language.proofs.by_name.by_name.Goals as goal
 

@@ -2,7 +2,8 @@
 use Rattle.std.proofs.Common.{map, Err, ap, subst, ◌≡◌, ◌∙◌, ◌⊎◌}
 use Rattle.std.specs.Prelude.{string_bytes, codes}
 use Rattle.sym_model.specs.Grammar.{all_entries, line_entries}
-use Rattle.calc_language.specs.Reading.{IsReadAs, entry_named}
+use Rattle.calc_words.specs.ReadParts.{entry_named}
+use Rattle.calc_language.specs.Reading.{IsReadAs}
 use Rattle.calc_words.proofs.CutWords.{empty_map}
 use Rattle.calc_language.proofs.Entries.{read_in_line, no_words, lines_told, elsewhere, runs_others}
 use Rattle.calc_language.proofs.lines.read_in_line.Goals as goal

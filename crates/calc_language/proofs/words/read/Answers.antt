@@ -2,7 +2,8 @@
 use Rattle.std.proofs.Common.{map, Err, ap, subst}
 use Rattle.std.specs.Prelude.{string_bytes}
 use Rattle.sym_model.specs.Grammar.{all_entries}
-use Rattle.calc_language.specs.Reading.{IsReadAs, entry_named}
+use Rattle.calc_words.specs.ReadParts.{entry_named}
+use Rattle.calc_language.specs.Reading.{IsReadAs}
 use Rattle.calc_words.proofs.CutWords.{empty_map}
 use Rattle.calc_language.proofs.Entries.{read_named, no_words, commands_told}
 use Rattle.calc_language.proofs.words.read.Goals as goal

@@ -1,6 +1,6 @@
 use Rattle.std.proofs.Common.{arith}
 use Rattle.schubert_laws.proofs.Members.{place_within}
-use Rattle.monk_product.proofs.row_product.transition_steps.Goals as goal
+use Rattle.monk_product.proofs.row_product.most_size.Goals as goal
 
 pub times_swap-requires-clause-order : goal.times_swap-requires-clause-order
 times_swap-requires-clause-order c =

@@ -1,0 +1,4 @@
+pub mod Reversed
+pub mod Flipped
+pub mod SmallExponents
+pub mod Complements

@@ -1,0 +1,4 @@
+pub mod DoubleChainSums
+pub mod DoublePieri
+pub mod UnmovedLetters
+pub mod DoublePieriLaw

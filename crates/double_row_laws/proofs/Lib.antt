@@ -1,0 +1,9 @@
+pub mod Mirrors
+pub mod MirroredDoubles
+pub mod ExpandedRows
+pub mod RestrictedMirrors
+pub mod DoubleRowsFromOne
+pub mod FreeRows
+pub mod SweptLetters
+pub mod SweptRows
+pub mod SweptRowsFromOne

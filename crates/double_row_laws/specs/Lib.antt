@@ -1,0 +1,3 @@
+pub mod ExchangedAlphabets
+pub mod DoubleRows
+pub mod SweptRows

@@ -1,0 +1,2 @@
+pub mod SameCounts
+pub mod TurnedSteps
