@@ -4,7 +4,7 @@
 //   questions  texts written for known questions, turned round: one that is written for two questions does not run, one for one runs no other
 //   formulas   made lines of the program: the formula that is printed of each, read as a line, is that line again
 //   runs       made lines that run: what is typed, the words that run, and the formula, for a reader of another hand
-//   times      long lines: how many milliseconds each takes, and half of it
+//   times      lines of COUNT bytes, and of a part of that: how many milliseconds each takes, the best of SEED attempts
 import fs from "fs";
 import vm from "vm";
 
@@ -227,22 +227,25 @@ function runs() {
 // ---- times
 
 function times() {
-  const fill = (unit, joint = "", size = Number(count)) => unit + (joint + unit).repeat(Math.max(0, Math.floor((size - unit.length) / (joint + unit).length)));
-  const size = Number(count), lines = [
-    ...[`expand s ${fill("h_2*h_1", " + ", size - 9)}`, fill("h_2 "), `(${fill("1", ",", size - 8)})*(1)`, `mult ${fill("1", " ", size - 5)}`, `mult ${fill("1", ",", size - 5)}`, `mult ${fill("(1)", " ", size - 5)}`, fill("s_{2,1}", "*"), fill("(")],
-    ...[`mult ${fill("[", "", size - 5)}`, `s_{${fill("1", "", size - 4)}}`, fill("s_{21}", "*"), fill("\\1 "), fill("\\"), fill("_"), fill("s"), `${fill("h_2[", "", size / 2)}h_1${fill("]", "", size / 2 - 3)}`, `expand s ${fill("(", "", size / 3)}h_1${fill(")", "", size / 3)}`],
-    ...[fill(" "), `schubert ${fill("(1 2)", "", size - 9)}`, `schubert ${fill("s_1 ", "", size - 9)}`, `mult (${fill("21^21,", "", size - 20)}1) (1)`, `unrsk [${fill("[1,2]", ",", size - 20)}] [[1]]`, `${fill("σ_1", " ", size - 12)} in Gr(2,4)`, `mult ${fill("2,1", ", ", size - 5)}`],
-    ...[fill("s_1", "-"), fill("mult "), `kronecker ${fill("s_1 ", "", size - 10)}`, `product of ${fill("s_1", " and ", size - 11)}`, `jdt [${fill("[None,1]", ",", size - 6)}]`, `P and Q of the word ${fill("1", " ", size - 20)}`, fill("= "), fill("' "), fill('"a " '), fill("$ "), fill(" #"), fill("h_2 in ")],
-    ...[`${fill("\\frac{1}{2}p_1", "+", size - 5)} in s`, fill("σ₁³"), fill("∅ "), fill("c^{21}_{1,1}"), fill("\u202e1"), fill("1\u200b")],
+  // (a shorter line can take longer, where a longer one has more signs, items or factors than are read)
+  const most = Number(count), sizes = [1, 3 / 4, 1 / 2, 3 / 8, 1 / 4, 1 / 8].map((it) => Math.floor(it * most));
+  const fill = (unit, joint = "", size = most) => unit + (joint + unit).repeat(Math.max(0, Math.floor((size - unit.length) / (joint + unit).length)));
+  const linesOf = (size) => [
+    ...[`expand s ${fill("h_2*h_1", " + ", size - 9)}`, fill("h_2 ", "", size), `(${fill("1", ",", size - 8)})*(1)`, `mult ${fill("1", " ", size - 5)}`, `mult ${fill("1", ",", size - 5)}`, `mult ${fill("(1)", " ", size - 5)}`, fill("s_{2,1}", "*", size), fill("(", "", size)],
+    ...[`mult ${fill("[", "", size - 5)}`, `s_{${fill("1", "", size - 4)}}`, fill("s_{21}", "*", size), fill("\\1 ", "", size), fill("\\", "", size), fill("_", "", size), fill("s", "", size), `${fill("h_2[", "", size / 2)}h_1${fill("]", "", size / 2 - 3)}`, `expand s ${fill("(", "", size / 3)}h_1${fill(")", "", size / 3)}`],
+    ...[fill(" ", "", size), `schubert ${fill("(1 2)", "", size - 9)}`, `schubert ${fill("s_1 ", "", size - 9)}`, `mult (${fill("21^21,", "", size - 20)}1) (1)`, `unrsk [${fill("[1,2]", ",", size - 20)}] [[1]]`, `${fill("σ_1", " ", size - 12)} in Gr(2,4)`, `mult ${fill("2,1", ", ", size - 5)}`],
+    ...[fill("s_1", "-", size), fill("mult ", "", size), `kronecker ${fill("s_1 ", "", size - 10)}`, `product of ${fill("s_1", " and ", size - 11)}`, `jdt [${fill("[None,1]", ",", size - 6)}]`, `P and Q of the word ${fill("1", " ", size - 20)}`, fill("= ", "", size), fill("' ", "", size), fill('"a " ', "", size), fill("$ ", "", size), fill(" #", "", size), fill("h_2 in ", "", size)],
+    ...[`${fill("\\frac{1}{2}p_1", "+", size - 5)} in s`, fill("σ₁³", "", size), fill("∅ ", "", size), fill("c^{21}_{1,1}", "", size), fill("\u202e1", "", size), fill("1\u200b", "", size)],
   ];
-  const took = (line) => Math.min(...Array.from({ length: 5 }, () => {
+  const took = (line) => Math.min(...Array.from({ length: Number(seed) }, () => {
     const before = process.cpuUsage();
     read(line);
     const { user, system } = process.cpuUsage(before);
     return (user + system) / 1000;
   }));
-  lines.forEach(read);
-  return { times: lines.map((line) => [line.slice(0, 24), line.length, took(line), took(line.slice(0, size / 2))]), wrong: [] };
+  const all = sizes.map(linesOf);
+  all.flat().forEach((it) => read(it));
+  return { times: all[0].map((line, i) => [line.slice(0, 24), line.length, ...all.map((lines) => took(lines[i]))]), wrong: [] };
 }
 
 const result = { trees, questions, formulas, runs, times }[what]();

@@ -423,6 +423,9 @@ ASKED = [
     ("σ_{1}^4 in Gr(2,4)", "σ(1) · σ(1) · σ(1) · σ(1) in H*(Gr(2,4)) = 2 σ(2,2)", ["2  q^0  (2,2)"]),
     ("number of LR tableaux of shape (3,2,1)/(2,1)", "the number of Littlewood–Richardson tableaux of shape (3,2,1)/(2,1) = 4", []),
     ("coefficient of s_{2,1} in s_1 s_1 s_1", "the coefficient of s(2,1) in s(1) · s(1) · s(1) = 2", ["2  (2,1)"]),
+    ("coefficient of σ_{2} in σ_{2,1}*σ_{2,1} in QH*(Gr(2,4))", "the coefficient of q σ(2) in σ(2,1) * σ(2,1) in QH*(Gr(2,4)) = 1", ["1  q^1  (2)"]),
+    ("the coefficient of σ_{(2)} in σ_{(2,1)} · σ_{(2,1)} in H*(Gr(2,4))", "the coefficient of σ(2) in σ(2,1) · σ(2,1) in H*(Gr(2,4)) = 0", []),
+    ("K_{(2,1);(1,1,1)}", "K(2,1),(1,1,1) = 2", ["2  (1,1,1)"]),
 ]
 
 
@@ -435,7 +438,9 @@ def asked_for(*where):
             got = visit.ask(script)
             if got != [said, marked, True]:
                 return f"{typed}: {got}"
-        return ""
+        visit.run("σ_1 σ_1 in QH*(Gr(2,4))")
+        raised = visit.ask("return [...document.querySelectorAll('article')[0].querySelectorAll('.computed msup')].map((it) => it.textContent)")
+        return wrong((raised, ["QH*"]))
 
 
 def first_reading(*where):
@@ -727,7 +732,9 @@ def theorems(*where):
         said = visit.ask("ask('quantum 2 2 2 1 - 2 1'); await quiet(); return [...document.querySelector('article').querySelectorAll('.note')].map((it) => it.textContent)")
         wanted = "Proved is that this is the product in K variables, reduced by rim hooks. That it is the product in QH*(Gr(2,4)) is a theorem of Bertram, Ciocan-Fontanine and Fulton."
         run = visit.ask("document.querySelector('article .theorem').open = true; document.querySelector('article .theorem [data-line]').click(); await quiet(); return answers()[0]")
-        return wrong((wanted in said, True), (run, ["quantum 1 1 1 - 1", "1  q^1  ()\n"]))
+        outside = visit.ask("ask('fusion 3 1 2 1 - 1'); await quiet(); return [...document.querySelector('article').querySelectorAll('.note')].map((it) => it.textContent).join(' ')")
+        parts = [it in outside for it in ("(2,1) is no weight of su(3) at level 1", "reduced into the alcove", "Kac")]
+        return wrong((wanted in said, True), (parts, [True, True, False]), (run, ["quantum 1 1 1 - 1", "1  q^1  ()\n"]))
 
 
 VISITS = [taken_along, growth_steps, theorems, printed_page, back_and_forward, origins, links_of_files, linked_table, undone, marked, equations, asked_for, first_reading, names_given, early_enter, late_failure, forgotten, other_tab, half_typed, long_line, back, reload, heavy_link, powers_link, lines_link, next_links, unseen_link, several_readings_link, draft, fresh_field, transcript, show_more, thousands, cleared, help_asked, offers, forms, tables, pictures, memory, little_memory, installed]

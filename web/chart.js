@@ -25,7 +25,7 @@ function readTable(table) {
     if (kind === "==") right.split(" ").forEach((it) => same.set(it, name));
     else if (kind === ":=" || kind === "~=") classes.set(name, { signs: right.split(" "), isKept: kind === ":=" });
     else {
-      const [, items, mark, meaning] = /^(.*?) ?-> ?([!?] )?(.*)$/.exec(right);
+      const [, items, mark, meaning = "value"] = /^(.*?) ?(?:-> ?([!?] )?(.*))?$/.exec(right);
       alternatives.push({ name, items: items.split(" ").map(itemOf), isRepair: mark === "! ", isDoubt: mark === "? ", meaning: (meaning || '""').split(" ") });
     }
   }
@@ -34,19 +34,20 @@ function readTable(table) {
 
 /** How the values of the items of an alternative make its own: `chosen` are the places of those that are given, or words. */
 function giver({ items, meaning: [name, ...given] }, isValued, meanings) {
+  const valued = items.map((it, i) => (isValued(it.name) ? i : -1)).filter((i) => i >= 0), give = meanings[name] ?? Object.values(meanings)[name.charCodeAt() - 256], at = name === "value" ? valued[0] : name - 1;
   if (name === '""') return () => "";
-  if (/^\d+$/.test(name)) return (values) => values[name - 1];
-  const valued = items.map((it, i) => (isValued(it.name) ? i : -1)).filter((i) => i >= 0), give = meanings[name];
+  if (at >= 0) return (values) => values[at];
   if (!give) throw new Error(`no meaning ${name}`);
   const words = given.filter((it) => !/^\d+$/.test(it)).map((it) => it.replace(/"/g, "")), places = given.filter((it) => /^\d+$/.test(it)).map((it) => it - 1);
   const chosen = places.length > 0 ? places : valued;
   return (values) => give(...words, ...chosen.map((i) => values[i]));
 }
 
-/** An alternative without some of the items that can be left out, once for each choice of them. */
-function choicesOf(items) {
-  const open = items.map((it, i) => (it.isOptional ? i : -1)).filter((i) => i >= 0), all = items.map((it, place) => ({ ...it, place }));
-  return Array.from({ length: 1 << open.length }, (_, mask) => all.filter((it) => !it.isOptional || (mask >> open.indexOf(it.place)) & 1));
+/** An alternative with and without the items that can be left out, and with each of the rules of which it can have one, once for each choice of them. */
+function choicesOf(items, ids) {
+  const namesOf = ({ name }) => (name.split("|").some((it) => ids.has(it)) ? name.split("|") : [name]);
+  const ways = items.map((it, place) => [...(it.isOptional ? [null] : []), ...namesOf(it).map((name) => ({ ...it, name, place }))]);
+  return ways.reduceRight((all, way) => all.flatMap((back) => way.map((it) => (it ? [it, ...back] : back))), [[]]);
 }
 
 /** A table as it is parsed by: its states, each an alternative with a place in it, and which signs can begin each. */
@@ -54,8 +55,8 @@ function grammarOf(table, meanings) {
   const { alternatives, classes, labels, same } = readTable(table), names = [...new Set(alternatives.map((it) => it.name))];
   const ids = new Map(names.map((name, i) => [name, i])), silent = new Set(alternatives.filter((it) => it.meaning[0] === '""').map((it) => it.name));
   const signsOfItem = (name) => (name.length > 1 && !classes.has(name) ? name.split("|") : [name]).flatMap((it) => (classes.has(it) ? classes.get(it).signs : [it]));
-  const isValued = (name) => (ids.has(name) ? !silent.has(name) : classes.has(name) ? classes.get(name).isKept : name === "NUM" || name === "sup");
-  const literals = new Set(alternatives.flatMap((it) => it.items).filter((it) => !ids.has(it.name)).flatMap((it) => signsOfItem(it.name)));
+  const isValued = (names, [name] = names.split("|")) => (ids.has(name) ? !silent.has(name) : classes.has(name) ? classes.get(name).isKept : name === "NUM" || name === "sup");
+  const literals = new Set(alternatives.flatMap((it) => it.items).flatMap((it) => signsOfItem(it.name)).filter((it) => !ids.has(it)));
   const kinds = new Map([...literals].map((it, i) => [it, i])), states = [], startsOf = names.map(() => []), firstOf = new Map(names.map((name) => [name, new Uint8Array(kinds.size + 2)]));
   const firstOfItem = (name) => {
     if (!firstOf.has(name)) firstOf.set(name, signsOfItem(name).reduce((first, it) => ((first[kinds.get(it)] = 1), first), new Uint8Array(kinds.size + 2)));
@@ -63,8 +64,8 @@ function grammarOf(table, meanings) {
   };
   for (const { name, items: all, meaning, isRepair, isDoubt } of alternatives) {
     const give = giver({ items: all, meaning }, isValued, meanings), id = ids.get(name);
-    for (const items of choicesOf(all)) {
-      const isSame = all.length === 1 && meaning[0] === "1" && ids.has(all[0].name) && !isRepair && !isDoubt;
+    for (const items of choicesOf(all, ids)) {
+      const isSame = all.length === 1 && /^(?:1|value)$/.test(meaning[0]) && ids.has(items[0].name) && !isRepair && !isDoubt;
       const of = { id, name, items, give, digits: 0, isRepair, isDoubt, isSame, count: all.length };
       startsOf[id].push(states.length);
       items.forEach((item, at) => states.push({ of, at, place: item.place, name: item.name, gap: item.gap, rule: ids.get(item.name) ?? -1, first: firstOfItem(item.name) }));
@@ -99,10 +100,10 @@ function chartOf(grammar, rule, signs) {
   const kind = [...signs.map((it) => kinds.get(it.kind) ?? none), none + 1, none + 1], blanks = [...signs.map((it, i) => (i === 0 ? 0 : it.gap ? 1 : 2)), 0];
   const [state, origin, before, between] = Array.from({ length: 4 }, () => new Int32Array(MOST_ITEMS + grammar.states.length)), others = new Map(), nodes = [];
   // (of each column: its items, and these as numbers; the rules that are awaited there, with the items that wait; and those that have ended there)
-  const columns = Array.from({ length: wide }, () => ({ items: [], keys: [], awaited: [], waiting: [], ended: [], first: 0, isMixed: false }));
+  const columns = Array(wide).fill(null), columnAt = (at) => (columns[at] ??= { items: [], keys: [], awaited: [], waiting: [], ended: [], first: 0, isMixed: false });
   let far = 0, count = 0, tried = [];
   const add = (at, next, begin, from, over) => {
-    const first = firsts[next], { items, keys } = columns[at];
+    const first = firsts[next], { items, keys } = columnAt(at);
     if (first !== null) {
       if (at > far) (far = at), (tried = []);
       if (at === far) tried.push(next);
@@ -138,7 +139,7 @@ function chartOf(grammar, rule, signs) {
   };
   for (const it of startsOf[root]) add(0, it, 0, -1, 0);
   for (let at = 0; at <= length && count < MOST_ITEMS; at += 1) {
-    const { items } = columns[at];
+    const { items } = columnAt(at);
     for (let i = 0; i < items.length && count < MOST_ITEMS; i += 1) {
       const item = items[i], now = state[item];
       if (firsts[now] === null) end(at, ofs[now], origin[item], item);
@@ -147,14 +148,13 @@ function chartOf(grammar, rule, signs) {
       else for (const it of sames[rules[now]]) wait(at, it, item);
     }
   }
-  return { state, before, between, others, nodes, columns, root: columns[length].first + columns[length].ended.indexOf(root * wide), isWhole: columns[length].ended.includes(root * wide), far, tried, isLong: count >= MOST_ITEMS };
+  return { state, before, between, others, nodes, columns, root: columnAt(length).first + columnAt(length).ended.indexOf(root * wide), isWhole: columnAt(length).ended.includes(root * wide), far, tried, isLong: count >= MOST_ITEMS };
 }
 
 /** All values of a rule for all signs: `{values, isMany, isWhole, far, tried}`. `isMany`: there are too many, or the signs are too many. */
 function parsed(grammar, rule, signs) {
   const chart = chartOf(grammar, rule, signs), { far, isLong, tried } = chart, isWhole = !isLong && signs.length > 0 && chart.isWhole;
-  const found = isWhole ? valuesOf(grammar, chart, signs) : { values: [], isMany: isLong };
-  return { ...found, isWhole, far, tried: isLong ? [] : tried.map((it) => grammar.states[it]) };
+  return { ...(isWhole ? valuesOf(grammar, chart, signs) : { values: [], isMany: isLong }), isWhole, far, tried: isLong ? [] : tried.map((it) => grammar.states[it]) };
 }
 
 /** The nodes of all trees, the short ones first; null if there are too many. */
@@ -175,7 +175,7 @@ function nodesOf({ state, before, between, others, nodes, columns, root }, wide)
     for (const [from, over] of others.get(item) ?? []) take(from, over);
   }
   const found = [];
-  for (const { ended, first, isMixed } of columns) {
+  for (const { ended, first, isMixed } of columns.filter(Boolean)) {
     const needed = ended.map((_, i) => first + i).filter((it) => isNeeded[it] === 1);
     // (those of a column were found the short ones first, but for some)
     found.push(...(isMixed ? needed.sort((a, b) => (ended[b - first] % wide) - (ended[a - first] % wide)) : needed));
@@ -183,11 +183,12 @@ function nodesOf({ state, before, between, others, nodes, columns, root }, wide)
   return cuts < MOST_CUTS ? found : null;
 }
 
-/** The values of one node, each once; where two trees have the same one it is a repair, or doubtful, only if it is so in both. */
+/** Whether two values are the same, with how their lists were typed. (Where they differ it is seen at the first part that does.) */
+const areSame = (a, b) => a === b || (Boolean(a && b) && typeof a === "object" && typeof b === "object" && a.how === b.how && Object.keys(a).length === Object.keys(b).length && Object.keys(a).every((it) => areSame(a[it], b[it])));
+
+/** The values of one node, each once with a convention about digits; where two trees have the same one it is a repair, or doubtful, only if it is so in both. */
 function putValue(found, it) {
-  const nameOf = (of) => (of.name ??= JSON.stringify([of.value, of.digits], (_, it) => (Array.isArray(it) && it.how ? [it.how, ...it] : it)));
-  // (values, with how their lists were typed, are compared only where their convention about digits is the same)
-  const old = found.find((other) => other.digits === it.digits && nameOf(other) === nameOf(it));
+  const old = found.find((other) => other.digits === it.digits && areSame(other.value, it.value));
   if (old) (old.isRepair = old.isRepair && it.isRepair), (old.isDoubt = old.isDoubt && it.isDoubt);
   else found.push(it);
   return found.length <= MOST_VALUES;

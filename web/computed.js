@@ -95,10 +95,11 @@ const ASKED = {
   f: ({ of }) => `f^{${shown(of)}}`,
   χ: ({ of, at }) => `χ^{${shown(of)}}_{${shown(at)}}`,
   degree: ({ of }) => inProjective(`the degree of Gr(${of.length},${of.length + Number(of[0])})`),
-  c: ({ at }, words) => {
+  c: ({ at, q }, words) => {
     const [[basis] = [], [text] = []] = [words("basis")[0], words("expression")[0]], isQuantum = words("columns").length > 0;
     if (basis) return `the coefficient of ${basis}_{${shown(at)}} in ${text ? shownExpression(text) : computed("plethysm", words).replace(/ in the basis .$/, "")}`;
-    return `the coefficient of ${isQuantum ? `σ_{${shown(at)}}` : schur(at)} in ${isQuantum ? computed("quantum", words) : words("partition").map(schur).join(" · ")}`;
+    if (isQuantum) return `the coefficient of ${q > 1 ? `q^{${q}} ` : q ? "q " : ""}σ_{${shown(at)}} in ${q ? computed("quantum", words) : ASKED.H(at, words)}`;
+    return `the coefficient of ${schur(at)} in ${words("partition").map(schur).join(" · ")}`;
   },
   count: (_, words) => `the number of ${computed("tab", words).replace(/^the /, "")}`,
   H: (_, words) => computed("quantum", words).replace(/ \* /g, " · ").replace("in QH*", "in H*"),
@@ -116,7 +117,7 @@ function reductionOf(line) {
   const [name] = textsOfWords(line), computed = ["quantum", "fusion"].includes(name) ? computedBy(line) : "";
   if (computed === "") return "";
   const [how, where, whose] = name === "quantum" ? ["by rim hooks", /QH.*$/, "of Bertram, Ciocan-Fontanine and Fulton"] : ["into the alcove", /su\(.*$/, "of Kac and Walton"];
-  return `Proved is that this is the product in K variables, reduced ${how}. That it is the product ${name === "quantum" ? "in" : "for"} ${where.exec(computed)[0]} is a theorem ${whose}.`;
+  return `Proved is that this is the product in K variables, reduced ${how}.${outsideBox(line) ? "" : ` That it is the product ${name === "quantum" ? "in" : "for"} ${where.exec(computed)[0]} is a theorem ${whose}.`}`;
 }
 
 /** What the coefficients of the answer to a line are called, where they have a name. */

@@ -106,7 +106,7 @@ function plainRow(nodes) {
 /** A text of the notation as words and pieces of MathML, with a place to break a line between them. */
 function mathNodes(text) {
   if (text.length > LONGEST_MATH) return formula(text);
-  const nodes = mathOf(text), made = [];
+  const nodes = mathOf(text.replace(/H\*(?=\()/g, "H^{*}")), made = [];
   let row = [], depth = 0;
   const flush = () => {
     if (row.length > 0) made.push(typedMath(row).length > LONGEST_PIECE ? element("span", {}, ...plainRow(row)) : element("math", {}, ...mathMLRow(row)));

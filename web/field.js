@@ -104,12 +104,12 @@ function ask(text, most, isQuestion = false) {
   return askLines(linesOf(text), most, true, isQuestion);
 }
 
-/** How many parentheses that are closed again are open at each place of a line. */
+/** How many parentheses and braces that are closed again are open at each place of a line. */
 function depthsOf(line) {
   const open = [], depths = new Int32Array(line.length + 1);
   for (let at = 0; at < line.length; at += 1) {
-    if (line[at] === "(") open.push(at);
-    else if (line[at] === ")" && open.length > 0) (depths[open.pop()] += 1), (depths[at] -= 1);
+    if ("({".includes(line[at])) open.push(at);
+    else if (")}".includes(line[at]) && open.length > 0) (depths[open.pop()] += 1), (depths[at] -= 1);
   }
   for (let at = 1; at <= line.length; at += 1) depths[at] += depths[at - 1];
   return depths;

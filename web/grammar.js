@@ -179,6 +179,14 @@ function conjugate(list) {
   return Array.from({ length: most }, (_, j) => String(list.filter((it) => Number(it) > j).length));
 }
 
+/** The partitions inside a rectangle, the whole rectangle, and the rest of it, turned: the class dual to another one. */
+const isInBox = (list, { rows, columns }) => partition(list).length <= rows && Number(list[0] || 0) <= columns;
+const rectangle = ({ rows, columns }) => Array(rows).fill(String(columns));
+const dualOf = (list, space) => (isPartition(list) && isInBox(list, space) ? Array.from({ length: space.rows }, (_, i) => String(space.columns - Number(list[space.rows - 1 - i] || 0))) : null);
+
+/** The dimension of the module of GL with so many rows. */
+const dimensionOf = (list, rows) => Math.round(Array.from({ length: rows ** 2 }, (_, n) => [Math.floor(n / rows), n % rows]).reduce((size, [i, j]) => (i < j ? (size * ((list[i] || 0) - (list[j] || 0) + j - i)) / (j - i) : size), 1));
+
 /** The letters of a product of cycles, the right one first; null if there is none. */
 function cycled(cycles) {
   const most = Math.max(...cycles.flat().map(Number)), isCycle = (it) => new Set(it).size === it.length && it.every((x) => Number(x) >= 1);
@@ -228,12 +236,19 @@ function lettersAllowed(name) {
 
 const OPERATORS = "+-*";
 
+/** An expression as it is read (`expressionRead`). The last one is kept: the readings of a line differ often only in their basis. */
+const lastRead = { text: null, read: null };
+function readExpression(text) {
+  if (text !== lastRead.text) Object.assign(lastRead, { text, read: expressionRead(text) });
+  return lastRead.read;
+}
+
 /**
  * Reads an expression as far as its bytes begin one: how many bytes those are, whether the whole word is an
  * expression, the state in which it stopped (`SENTENCES` says for each what comes next), how many parentheses are
  * open there, and the marks at which numbers and parentheses begin.
  */
-function readExpression(text) {
+function expressionRead(text) {
   const marks = [];
   let state = "start", depth = 0, at = 0, atom = [], begun = 0;
   const mark = (kind, more) => {

@@ -34,12 +34,13 @@ function otherOrder(lists) {
   return [{ why: "This is 0 by its sizes alone. In another order it is", line: (others[0] || {}).line }];
 }
 
-/** The classes of a quantum product that are not inside the rectangle of Gr(k,n), in words. */
+/** The classes of a quantum product that are not inside the rectangle of Gr(k,n), and the factors of a fusion product that are not in the alcove, in words. */
 function outsideBox(line) {
   const [name, rows, columns] = textsOfWords(line), box = { rows: Number(rows), columns: Number(columns) };
-  const lists = name === "quantum" ? (partsOf(textsOfWords(line)) || []).filter((it) => it.role === "partition").map((it) => it.words) : [];
-  const outside = [...new Set(lists.filter((it) => !isInBox(it, box)).map(shown))];
-  return outside.length > 0 ? sentence("outside", { classes: allOf(outside), rows, columns, n: Number(rows) + Number(columns) }) : "";
+  const isFitting = { quantum: (it) => isInBox(it, box), fusion: (it) => it.length <= rows && Number(it[0] || 0) - Number(it[rows - 1] || 0) <= columns }[name];
+  const lists = isFitting ? (partsOf(textsOfWords(line)) || []).filter((it) => it.role === "partition").map((it) => partition(it.words)) : [];
+  const outside = [...new Set(lists.filter((it) => !isFitting(it)).map(shown))];
+  return outside.length > 0 ? sentence(`outside ${name}`, { classes: allOf(outside), rows, columns, n: Number(rows) + Number(columns) }) : "";
 }
 
 /** What a line that was answered could have been meant as: each with why, and without a line where only that is said. */

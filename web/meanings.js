@@ -20,11 +20,11 @@ const typedWith = (how, list) => Object.defineProperty([...list], "how", { value
 const isPartition = (list) => list && isDecreasing(list);
 const sizeOfAll = (lists) => sumOf(lists.flat());
 
-/** Digits as numbers, or as one number, with an exponent: it is that of the last digit, or of the whole number; without braces it has one digit or all. */
+/** Digits as numbers, zeros only at the end, or as one number, with an exponent: it is that of the last digit, or of the whole number; without braces it has one digit or all. */
 function digitsWithPower(base, exponent, isBraced) {
   const isCut = !isBraced && exponent.length > 1 && isDigits(exponent), ends = [[exponent, []], ...(isCut ? [[exponent[0], [...exponent.slice(1)]]] : [])];
-  const isOne = base.length === 1, isApart = isDigits(base);
-  const apart = ([times, rest]) => (isOne || isApart) && { value: joined([...base.slice(0, -1)], copies(base[base.length - 1], times), rest), digits: isOne ? 0 : 1 };
+  const isOne = base.length === 1, isApart = isDigits(base), isLong = exponent === "1" && /^[1-9]{1,15}0{1,9}$/.test(base);
+  const apart = ([times, rest]) => (isOne || isApart || isLong) && { value: isLong ? typedWith("digits", base) : joined([...base.slice(0, -1)], copies(base[base.length - 1], times), rest), digits: isOne ? 0 : 1 };
   const whole = ([times, rest]) => !isOne && isPlain(base) && { value: joined(copies(base, times), rest), digits: isApart ? 2 : 0 };
   return anyOf(...ends.flatMap((it) => [apart(it), whole(it)]));
 }
@@ -133,11 +133,7 @@ function stanleyIn(w, count) {
 
 // ---- the Grassmannian, and fusion
 const boxOf = (rows, columns) => (rows >= 1 && columns >= 1 ? { rows: Number(rows), columns: Number(columns) } : null);
-const isInBox = (list, { rows, columns }) => partition(list).length <= rows && Number(list[0] || 0) <= columns;
-const rectangle = ({ rows, columns }) => Array(rows).fill(String(columns));
 const inFull = (list, space) => (list.how === "point" ? rectangle(space) : list);
-/** The class dual to another one: the rest of the rectangle, turned. */
-const dualOf = (list, space) => (isPartition(list) && isInBox(list, space) ? Array.from({ length: space.rows }, (_, i) => String(space.columns - Number(list[space.rows - 1 - i] || 0))) : null);
 
 /** A product of classes of Gr(k,n): in its quantum cohomology, or the terms without q of that, which are the ordinary product. */
 function classesIn(given, space) {
@@ -147,11 +143,12 @@ function classesIn(given, space) {
   // (in H* a sign of the keyboard is its product; with two different signs one can be that of the quantum product)
   return { cup: isQuantum, star: !isQuantum, times: !space.kind, "": true }[given.how] ? eitherOf(ordinary, made) : isQuantum ? made : ordinary;
 }
-/** The coefficient of a class in a product of classes: without q, or with the power of q that the degrees leave. */
-function classCoefficient(list, lists, space, q = 0) {
+/** The coefficient of a class in a product of classes: without q, or in QH* with the power of q that is given, or that the degrees leave. */
+function classCoefficient(list, lists, space, q) {
   const made = list && space && classesIn([...lists], { ...space, kind: "quantum" }), [at, ...classes] = made ? [list, ...lists].map((it) => inFull(it, space)) : [];
   if (!made || ![at, ...classes].every((it) => isPartition(it) && isInBox(it, space))) return null;
-  return asking(made, { kind: "c", at: partition(at) }, sizeOfAll(classes) !== sumOf(at) + q * (space.rows + space.columns));
+  const left = (sizeOfAll(classes) - sumOf(at)) / (space.rows + space.columns), power = Number(q ?? (space.kind === "quantum" && left > 0 && left % 1 === 0 ? left : 0));
+  return asking(made, { kind: "c", at: partition(at), q: power }, left !== power);
 }
 const leastRows = ({ lists }) => String(Math.max(1, ...lists.map((it) => it.length)));
 const leastColumns = ({ lists }) => String(Math.max(1, ...lists.map((it) => Number(it[0] || 0))));
@@ -206,12 +203,12 @@ const MEANINGS = {
   called: (list) => (list.length === 1 ? typedWith("called", list) : list),
   exponent: (times) => anyOf({ value: [times] }, /^\d[1-9]\d*$/.test(times) && { value: [times[0], times.slice(1)] }),
   list: (...all) => all,
-  add: (list, more) => (list.length < 2 * LIMITS.values ? [...list, more] : tooMuch()),
+  add: (list, more) => (list.length < (more.list ? LIMITS.factors : 2 * LIMITS.values) ? [...list, more] : tooMuch()),
   addAll: (list, more) => few(typedWith(list.how, [...list, ...more])),
   addAs: (how, list, more) => MEANINGS.addAll(typedWith((list.how ?? how) === how ? how : "", list), more),
   listPower: (list, [times, rest]) => (rest || Number(times) < 1 ? null : Number(times) > LIMITS.factors ? tooMuch() : Array(Number(times)).fill(list)),
   // expressions
-  atom: (family, list) => (isPartition(list) && !(family === "p" && list.join() === "0") ? expression(atomText(family, list), [[family, list]], { isCalled: list.how === "called" }) : null),
+  atom: (family, list) => (isPartition(list) && !(family === "p" && list.join() === "0") && !(/[hep]/.test(family) && list.how === "digits" && list[1] && list[list.length - 1] === "0") ? expression(atomText(family, list), [[family, list]], { isCalled: list.how === "called" }) : null),
   named: (family, it) => (it.atoms[0][0] === family ? it : null),
   omega: (family, list) => {
     const made = OMEGA[family] ? MEANINGS.atom(OMEGA[family], family === "s" ? conjugate(list) : list) : null;
@@ -238,19 +235,20 @@ const MEANINGS = {
   plethysmBare: (both) => (hasFunction(both[0]) ? inEachBasis("plethysm", ...both) : null),
   plethysm: (basis, both) => reading("plethysm", basis, ...both),
   inLetters: (it, count) => ({ list: it.atoms[0][1], count }),
+  countOfOnes: (list) => (list.every((it) => it === "1") ? String(list.length) : null),
+  inGl: (it, count) => reading("plethysm s", it.text, plainNumber(count)),
+  polynomial: (it, count, [[, list]] = it.atoms, w = ofCode(Array.from({ length: count }, (_, i) => list[count - 1 - i] || "0"))) => (w && list.length <= count ? reading("schubert", w) : null),
   multInLetters: (all) => (all.every((it) => it.count === all[0].count) ? productOf(all.map((it) => it.list), variables(all[0].count)) : null),
   littlewood: ([a], [b]) => (isPartition(a) && isPartition(b) ? eitherOf([atomText("s", b), atomText("s", a)], [atomText("s", a), atomText("s", b)]) : null),
   // products of lists
   // (a function with more rows than there are variables is 0 in these)
   product: (it, count, lists = Array.isArray(it) ? it : schurFactors(it)) => asking(productOf(lists, variables(count)), undefined, Boolean(count && lists?.some((list) => partition(list).length > count))),
-  // (a product that can be one of something else, which is not computed here)
-  orOther: (lists) => doubtful({ isDoubtful: true }, productOf(lists)),
+  orOther: (it) => ({ ...it, isDoubtful: true }),
   ofGl: (lists, count, canBeDimensions = count !== "1" && lists.every((it) => it.length === 1 && !["index", "called"].includes(it.how))) =>
     canBeDimensions ? eitherOf(...(count === "2" ? [0, 1] : [0]).map((less) => doubtful({ isDoubtful: true }, MEANINGS.product(lists.map(([it]) => [String(it - less)]), count)))) : MEANINGS.product(lists, count),
-  // (S with an increasing list is also a Schur function, with its rows from the last one on)
   rowsOfS: (list) => (list.length === 1 && list[0].length > 1 ? null : [list, [...list].reverse()].find(isPartition)),
-  // (lists without a number that comes twice can be cycles, or permutations)
-  listProduct: (lists) => doubtful({ isDoubtful: lists.some((it) => it.how === "blanks") || lists.every((it) => it.how === "digits" || cycled([it])) }, productOf(lists)),
+  // (lists without a number that comes twice can be cycles, or permutations; those of one size, but in braces, characters that are multiplied value by value)
+  listProduct: (lists, are = (form) => lists.every((it) => form.test(it.how) || (form.test("digits") && cycled([it])))) => doubtful({ isDoubtful: !lists.some((it) => it.how === "index") && (lists.some((it) => it.how === "blanks") || are(/digits/) || (new Set(lists.map(sumOf)).size === 1 && !are(/braces/))) }, productOf(lists)),
   // skew shapes, coefficients, numbers
   skew: (lists, count) => skewOf("skew", lists, variables(count)),
   inOrder: (a, b) => (skewOf("skew", [b, a]) ? [b, a] : [a, b]),
@@ -261,6 +259,7 @@ const MEANINGS = {
   likeSchur: ({ atoms: [[family, list]] }) => (family === "s" || (family === "h" && list.length === 1) ? list : family === "e" && list.length === 1 ? copies("1", list[0]) : null),
   coproduct: (list) => (isPartition(list) ? reading("coprod", list) : null),
   coef: (outer, factors) => coefOf([outer, ...factors]),
+  coefNot0: (outer, factors, made = coefOf([outer, ...factors])) => (made?.zero ? null : made),
   coefWithPair: (outer, factors) => inSomeOrder(coefOf([outer, ...factors]), [outer, ...factors]),
   coefficientIn: (atom, it) => coefficientAt(...atom.atoms[0], it),
   coefficientInPlethysm: (atom, both) => asking(reading("plethysm", atom.atoms[0][0], ...both), { kind: "c", at: atom.atoms[0][1] }),
@@ -292,15 +291,14 @@ const MEANINGS = {
   },
   doubleProduct: (lists) => eitherOf(MEANINGS.permuted("dschubmult", lists), lists.length === 2 && lists.every((it) => it.how === "xy" && it.length <= 3) && MEANINGS.permuted("schubmult", lists)),
   schubertProduct: (lists) => (lists.length <= 2 ? MEANINGS.permuted(lists.length === 1 ? "schubert" : "schubmult", lists) : areLetters(lists) ? tooMuch("Two Schubert polynomials are multiplied at a time here.") : null),
-  // (as many letters as it has, or more)
   schubertIn: (w, count) => (Number(count) >= w.length - 1 ? w : null),
-  // (F_w is of w or of its inverse)
   stanleyOf: (w, count) => eitherOf(stanleyIn(w, count), isPermutation(w) && stanleyIn(inverseOf(w), count)),
   nextLetter: (last, number) => (Number(number) === Number(last) + 1 ? number : null),
   rskTwice: (a, b) => (a.join() === b.join() ? reading("rsk", a) : null),
   bareList: (list) => eitherOf(isPartition(list) && reading("coprod", list), isPartition(list) && standardOf(list), ...["rsk", "schubert", "growth"].map((it) => areLetters([list]) && reading(it, list)), areLetters([list]) && stanleyIn(list)),
   lettersOf: (word) => (word.every(isDigits) ? [...word.join("")] : null),
-  rsk: (word) => (word.every((it) => Number(it) >= 1) ? reading("rsk", word) : null),
+  rsk: (word) => (word.every((it) => Number(it) >= 1) ? doubtful({ isAlone: !word[1] && /.0/.test(word[0]) }, reading("rsk", word)) : null),
+  ofRule: (it) => doubtful({ isDoubtful: !/mult|coef|quantum|fusion|plethysm|\*|expand [ehm] p/.test(it.line) }, it),
   // the Grassmannian and fusion
   grassmannian: (k, n) => boxOf(k, n - k),
   grOrLines: (k, n) => eitherOf(boxOf(k, n - k), k === "1" && boxOf("2", n - 1)),
@@ -309,20 +307,21 @@ const MEANINGS = {
   subspaces: (k, n) => boxOf(Number(k) + 1, n - k),
   space: (kind, space) => space && { ...space, kind },
   integral: (lists, space) => classCoefficient(MEANINGS.point(), lists, space),
-  invariant: (a, b, c, q, space) => classCoefficient(dualOf(inFull(c, space), space), [a, b], space, Number(q)),
+  invariant: (a, b, c, q, space) => classCoefficient(dualOf(inFull(c, space), space), [a, b], space, q),
   degree: (space) => (space.rows * space.columns <= LIMITS.degree ? standardOf(rectangle(space), "degree") : tooMuch()),
-  // (a line meets a line in one condition in three dimensions alone)
   lines: (count, dimension) => MEANINGS.planes("2", dimension === "3" && 4, count, "2"),
   planes: (k, n, count, other) => (n - k === Number(other) && k * other === Number(count) && boxOf(k, n - k) ? MEANINGS.degree(boxOf(k, n - k)) : null),
-  // (labels of Dynkin are k-1 numbers with a sum of at most the level, or k with that sum; a number alone can be a dimension)
+  // (labels of Dynkin are k-1 numbers with a sum of at most the level, or k with that sum; a number alone can be a dimension, or a spin)
   fusionFor: (given, rows, level) => {
     const it = Array.isArray(given) ? { lists: given } : given, most = Number(level), isOpen = it.lists.every((list) => list.how !== "index");
     const from = (is, part) => isOpen && it.lists.every(is) && fusionOf({ ...it, lists: it.lists.map(part) }, rows, level);
     const ofLabels = (list) => list.map((_, i) => String(sumOf(list.slice(i)))), isOf = (size) => (list) => list.length === size - 1 && sumOf(list) <= most;
-    const isAffine = (list) => list.length === Number(rows) && sumOf(list) === most, isDimension = (list) => list.length === 1 && list[0] >= 1 && list[0] <= most + 1;
-    const affine = from(isAffine, (list) => ofLabels(list.slice(1))), dimensions = rows === "2" && from(isDimension, ([number]) => [String(number - 1)]);
+    const isAffine = (list) => list.length === Number(rows) && sumOf(list) === most;
+    const ofDimension = ([number]) => (countInside(rows - 1, most) < 999 ? partitionsInside(rows - 1, most).find((it) => dimensionOf(it, rows) === Number(number)) : undefined);
+    const affine = from(isAffine, (list) => ofLabels(list.slice(1))), dimensions = from((list) => list.length === 1 && ofDimension(list), (list) => [...ofDimension(list), ...(list[0] === "1" ? [0] : [])].map(String));
+    const spins = rows === "2" && from((list) => list.length === 1 && 2 * list[0] <= most, ([number]) => [String(2 * number)]);
     const isDoubtful = it.isDoubtful || (rows !== "2" && isOpen && it.lists.every((list) => list.length === 1));
-    return eitherOf(fusionOf({ ...it, isDoubtful }, rows, level), rows !== "2" && from(isOf(rows), ofLabels), affine, dimensions);
+    return eitherOf(fusionOf({ ...it, isDoubtful }, rows, level), rows !== "2" && from(isOf(rows), ofLabels), affine, dimensions, spins);
   },
   inducedByOne: (letters, upTo, list) => (sumOf(list) === Number(letters) && Number(upTo) === sumOf(list) + 1 ? productOf([list, ["1"]]) : null),
   induced: (groups, lists) => (groups.join() === lists.map((it) => String(sumOf(it))).join() ? productOf(lists) : null),

@@ -2,13 +2,14 @@
 // same name. The table is ambiguous on purpose: a line has the readings of all its trees, and where these are several commands all are offered.
 //
 // Items: a name with a capital is a rule or a class of signs; NUM is a run of digits, sup raised digits; everything else is the sign or word itself.
-// `~X` is X with no blank before it, `␣X` X after a blank, `X?` X or nothing, `a|b` one of these signs. A class with `:=` keeps which sign it was,
+// `~X` is X with no blank before it, `␣X` X after a blank, `X?` X or nothing, `a|b` one of these. A class with `:=` keeps which sign it was,
 // one with `~=` does not. `==` gives the texts that are the same as a sign, as a blank or as nothing. A text in quotes after the name of a rule is what
 // the page calls it when it is expected.
 //
 // The meaning is a function of MEANINGS (meanings.js) with the values of the items that have one: rules, NUM, sup, classes with `:=`. Numbers after
-// it choose items by their places, other words are given as they are; a number alone is the item's value. `!` marks a repair, which changes what is
-// asked: it is offered where there is no reading, and never runs. `?` marks a doubtful reading, which counts beside the others and never runs.
+// it choose items by their places, other words are given as they are; a number alone is the item's value, and without a meaning it is the one value.
+// `!` marks a repair, which changes what is asked: it is offered where there is no reading, and never runs. `?` marks a doubtful reading, which counts
+// beside the others and never runs.
 
 const NOTATIONS = String.raw`
 # ---------------------------------------------------------------- signs
@@ -37,7 +38,7 @@ T == \top
 to == → -> => \rightarrow \mapsto via
 in == ∈
 hash == #
-𝔖 == frakS calS scrS
+𝔖 == frakS
 𝔾 == bbG
 σ == sigma
 χ == chi
@@ -85,83 +86,70 @@ Part "a number" = NUM -> part  # 12: one number, since commas or blanks part it 
   | NUM ~^ ~NUM -> partPower  # 2^3
   | NUM ~^ ~{ NUM } -> part
   | NUM ~sup -> part
-Commas = Part , Part -> join
-  | Commas , Part -> join
-Blanks = Part ␣Part -> join
-  | Blanks ␣Part -> join
+Commas = Part|Commas , Part -> join
+Blanks = Part|Blanks ␣Part -> join
 Digits = NUM -> digits  # 21: two numbers, or one
   | NUM ~^ ~NUM -> digitsPower  # 21^2: (2,1,1) or (21,21)
   | NUM ~^ ~{ NUM } -> digits
   | NUM ~sup -> digits
-Compact "digits" = Digits -> 1
+Compact "digits" = Digits
   | Compact ~Digits -> join  # 2^{2}11
 Tightly = Part ~, ~Part -> join  # 2,1 without brackets: the same blanks at all commas
   | Tightly ~, ~Part -> join
-Loosely = Part , ␣Part -> join
-  | Loosely , ␣Part -> join
-Inside "numbers" = Commas -> 1
-  | Commas , -> 1  # (2,1,) of Python
-  | Part , -> 1  # (21,): one part, whatever its digits
+Loosely = Part|Loosely , ␣Part -> join
+Inside "numbers" = Commas
+  | Commas ,  # (2,1,) of Python
+  | Part ,  # (21,): one part, whatever its digits
   | Blanks -> typedWith blanks
   | Compact -> typedWith digits
-Round = ( Inside ) -> 2
-Square = [ Inside ] -> 2
+Round = ( Inside )
+Square = [ Inside ]
 Empty = ∅ -> list
   | ( ) -> list
   | [ ] -> list
   | { } -> list
-List "a list" = Round -> 1
-  | Square -> 1
-  | { Inside } -> 2  # Mathematica
-  | { Round } -> 2
-  | Empty -> 1
-  | yng ( Inside ) -> 3  # \yng(2,1)
-  | ydiagram { Inside } -> 3
+List "a list" = Round|Square
+  | { Inside }  # Mathematica
+  | { Round }
+  | Empty
+  | yng ( Inside )  # \yng(2,1)
+  | ydiagram { Inside }
 Lams = Lam , Lam -> list
-Lam "a partition" = List -> 1
+Lam "a partition" = List
   | List ~Prime -> conjugate  # (3,1)'
-  | List ~^ ~t|T -> conjugate
-  | List ~^ ~Prime -> conjugate
+  | List ~^ ~t|T|Prime -> conjugate
   | conjugate|transpose of? Lam -> conjugate
-  | partition ( Square ) -> 3  # Sage
-Sub = Below -> 1
-  | Square -> 1
-Below = Inside -> 1
-  | Round -> 1
-  | Empty -> 1
-  | Inside Prime -> conjugate
-  | Round Prime -> conjugate
-  | yng ( Inside ) -> 3
-  | ydiagram { Inside } -> 3
+  | partition ( Square )  # Sage
+Sub = Below|Square
+Below = Inside|Round|Empty
+  | Inside|Round Prime -> conjugate
+  | yng ( Inside )
+  | ydiagram { Inside }
   | □ -> copies "1" "1"
 Tight = NUM -> part  # an index without braces
   | Tight ~, ~NUM -> join
-Index "an index" = ~_ ~{ Below } -> 3  # s_{2,1}
+Index "an index" = ~_ ~{ Below }  # s_{2,1}
   | ~_ ~{ Square } -> ? 3  # s_{[2,1]}: or a character of O(n)
   | ~_ ~NUM -> digits  # s_21
-  | ~_ ~Round -> 2
-  | ~_ ~Square -> 2
-  | ~_ ~Empty -> 2
+  | ~_ ~Round|Square|Empty
   | ~_ ~NUM ~, ~Tight -> ? join  # s_2,1 (a comma with two readings)
-  | ~. ~Square -> 2  # s.[2,1], Magma
-  | ~Square -> 1  # s[2,1]
+  | ~. ~Square  # s.[2,1], Magma
+  | ~Square  # s[2,1]
   | ~[ ~] -> list
   | ~∅ -> list
-  | ~[ { Inside } ] -> 3  # s[{2,1}], Mathematica
+  | ~[ { Inside } ]  # s[{2,1}], Mathematica
   | ~( Inside ) -> called  # s(2,1)
-  | ~( Square ) -> 2  # s([2,1]), Sage
+  | ~( Square )  # s([2,1]), Sage
   | ~NUM -> digits  # s21
 IndexPower = ~_ ~NUM ~^ ~NUM -> digitsPower  # s_1^3 as s_{1^3}
   | ~_ ~NUM ~^ ~{ NUM } -> digits
-Upper = ~^ ~{ Sub } -> 3
-  | ~^ ~Round -> 2
-  | ~^ ~Square -> 2
-Above = Upper -> 1
+Upper = ~^ ~{ Sub }
+  | ~^ ~Round|Square
+Above = Upper
   | ~^ ~NUM -> digits
-Lower = ~_ ~{ Sub } -> 3
+Lower = ~_ ~{ Sub }
   | ~_ ~NUM -> digits
-  | ~_ ~Round -> 2
-  | ~_ ~Square -> 2
+  | ~_ ~Round|Square
 Exp "an exponent" = ~^ ~NUM -> exponent  # ^2; ^21 is 21, or 2 and a digit
   | ~^ ~{ NUM } -> list
   | ~sup -> list
@@ -169,15 +157,15 @@ Exp "an exponent" = ~^ ~NUM -> exponent  # ^2; ^21 is 21, or 2 and a digit
   | ~^ ~( NUM ) -> list
   | squared -> list "2"
   | cubed -> list "3"
-  | to NUM power? -> list
-Arg "a partition" = Lam -> 1  # in a phrase
+  | to NUM power -> list
+Arg "a partition" = Lam  # in a phrase
   | s Index -> typedWith index
-  | Tightly -> 1
+  | Tightly
   | Compact -> ? 1  # 2: a partition, or a number
-  | Blanks -> 1
-  | partition Arg -> 2
-  | schur functions Arg -> 3
-  | Greek = Lam -> 3  # λ=(2,1)
+  | Blanks
+  | partition Arg
+  | schur functions Arg
+  | Greek = Lam  # λ=(2,1)
 By = and|with|by -> ""
 Both "two partitions" = Arg By Arg -> list
   | Arg , and? Arg -> list
@@ -196,50 +184,47 @@ Named = monomial Functions? -> word m  # the power sum p_3
   | power -? sum Functions? -> word p
   | schur Functions? -> word s
 Functions = symmetric? functions|polynomials -> ""
-Power = Atom -> 1
-  | Atom InX -> 1  # h_2[X]
+Power = Atom
+  | Atom InX  # h_2[X]
   | Named Atom -> named
-  | Paren -> 1
-  | Det -> 1
+  | Paren|Det
   | SM IndexPower -> atom  # s_1^3 (and no further exponent)
-  | Atom Exp -> powerOf
-  | Paren Exp -> powerOf
+  | Atom|Paren Exp -> powerOf
 Paren = ( Sum ) -> paren
 Det = det|determinant of? Matrix -> determinant  # of Jacobi and Trudi
   | vmatrix Matrix_ vmatrix -> determinant
-Matrix = [ DRows ] -> 2
-  | { DRows } -> 2
-  | ( Matrix ) -> 2
-  | [ { DRows } ] -> 3
-  | ( Matrix_ ) -> 2
-  | pmatrix Matrix_ pmatrix -> 2
+Matrix = [ DRows ]
+  | { DRows }
+  | ( Matrix )
+  | [ { DRows } ]
+  | ( Matrix_ )
+  | pmatrix Matrix_ pmatrix
 Matrix_ = DRow -> list
   | Matrix_ ;|\\ DRow -> add
 DRows = DList -> list
   | DRows ,? DList -> add
-DList = [ DRow ] -> 2
-  | { DRow } -> 2
+DList = [ DRow ]
+  | { DRow }
 DRow = Sum -> list
   | DRow ,|& Sum -> add
 Number = NUM -> written ""
-Scalar = Number -> 1
+Scalar = Number
   | Number Exp -> powerOf
-Factor "a factor" = Power -> 1
-  | Scalar -> 1
+Factor "a factor" = Power|Scalar
   | Scalar / NUM -> written /
   | frac { Scalar } { NUM } -> written /
-Term "an expression" = Factor -> 1
+Term "an expression" = Factor
   | Term *|· Factor -> timesText
   | Term ∗ Factor -> ? timesText  # or the internal product
   | Term Power -> timesText  # h_3 e_2, 2 s_1
   | Term Scalar -> ! timesText  # h[2]^{2}3
-Sum "an expression" = Term -> 1
+Sum "an expression" = Term
   | Minus Term -> written ""
   | Sum Sign Term -> written ""
-Basis "a basis" = Family -> 1
-  | Family ~_ i -> 1
-  | Family ~_ Greek -> 1  # m_λ
-  | Family ~_ ~{ Greek } -> 1
+Basis "a basis" = Family
+  | Family ~_ i
+  | Family ~_ Greek  # m_λ
+  | Family ~_ ~{ Greek }
   | monomial|monomials -> word m
   | elementary|elementaries -> word e
   | complete homogeneous? -> word h
@@ -247,9 +232,9 @@ Basis "a basis" = Family -> 1
   | power -? sum|sums -> word p
   | powersum|powersums -> word p
   | schur|schurs -> word s
-  | Basis functions|polynomials|basis -> 1
-  | Basis - basis -> 1  # s-basis
-  | Basis symmetric functions|polynomials -> 1
+  | Basis functions|polynomials|basis
+  | Basis - basis  # s-basis
+  | Basis symmetric functions|polynomials
 In = To -> ""
   | = ?? To -> ""  # = ? in h
   | expanded|written|expressed To -> ""
@@ -271,7 +256,7 @@ Plethysm "a plethysm" = Power ~[ Sum ] -> composed  # h_2[h_3]
   | Power . plethysm ( Sum ) -> composed  # Sage
   | plethysm of? Power By Power -> composed
   | plethysm ~:? Power of Power -> composed
-  | plethysm of|:? Plethysm -> 3
+  | plethysm of|:? Plethysm
 Omega = ω Family Index -> omega  # ω s_{3,1} is s_{2,1,1} (what follows could be under it, too)
   | ω ( Family Index ) -> omega
   | ω of Family Index -> omega
@@ -280,23 +265,23 @@ Question = Omega -> bare
   | Convert? Omega In Basis -> expand 4 2
   | Sum -> bare
   | Convert? Sum In Basis -> expand 4 2  # e_3 in h
-  | Convert? product of? And In Basis -> expand 6 4
-  | Convert? product of? Term In Basis -> expand 6 4
+  | Convert? product of? And|Term In Basis -> expand 6 4
   | Plethysm -> plethysmBare
   | Convert? Plethysm In Basis -> plethysm 4 2
   | Family ~( Sum ) -> sageExpand  # s(h[2,1]), Sage
   | Family ~( Plethysm ) -> plethysm
   | Convert Sum -> ! bare  # expand s2: in which basis?
   | expand Family ~( Sum ) -> ! sageExpand
-  | Basis expansion|decomposition of? Sum -> expand  # Schur expansion of p_3
-  | Basis expansion|decomposition of? Plethysm -> plethysm
+  | Basis -? expansion|decomposition of? Sum -> expand  # Schur expansion of p_3
+  | Basis -? expansion|decomposition of? Plethysm -> plethysm
   | expansion of? Sum In Basis -> expand 5 3
   | expansion of? Plethysm In Basis -> plethysm 5 3
   | Convert? Skewed In Basis -> skewIn
   | Convert? Skewed -> skew
   | JacobiTrudi OfArg -> expand h
   | dual JacobiTrudi OfArg -> expand e
-  | JacobiTrudi σ OfIndex -> expand h
+  | JacobiTrudi|Giambelli σ OfIndex -> expand h
+  | Giambelli OfArg -> ? expand h  # or in hooks
   | ToBasis ( Sum ) -> expand 1 3
   | ToBasis ␣Atom -> expand
   | ToBasis ( Composed ) -> plethysm 1 3
@@ -310,25 +295,25 @@ ToBasis = tos -> word s  # Stembridge's SF, and Macaulay2
   | toh -> word h
   | top -> word p
   | tom -> word m
-FromFamily = Atom from Family -> named 3 1
-Composed = plethysm ( Arguments ) -> 3
+FromFamily = Atom from Basis -> named 3 1
+Composed = plethysm ( Arguments )
 InSymmetrica = schur -> word s
   | powsym -> word p
   | homsym -> word h
   | elmsym -> word e
   | monomial -> word m
-JacobiTrudi = giambelli|jacobi -? trudi? formula|determinant|expansion|identity? of|for|:? -> ""
-RowsOfS = S Index -> rowsOfS
+JacobiTrudi = jacobi -? trudi formula|determinant|expansion|identity? of|for|:? -> ""
+Giambelli = giambelli formula|determinant|expansion|identity? of|for|:? -> ""
+RowsOfS = S Index -> rowsOfS  # with an increasing list: its rows from the last one on
 OfS_ = RowsOfS -> atom s
 SProduct = RowsOfS -> list
   | SProduct Dot? RowsOfS -> add
   | RowsOfS Exp -> listPower
-InVariables = in NUM variables|vars|variable -> 2
-  | with|in at most NUM rows|parts -> 4
-  | restricted|truncated to NUM rows|variables -> 3
+InVariables = in NUM variables|vars|variable
+  | with|in at most NUM rows|parts
+  | restricted|truncated to NUM rows|variables
 SPair = RowsOfS By RowsOfS -> list
-Several = Power , Power -> timesText
-  | Several , Power -> timesText
+Several = Power|Several , Power -> timesText
 And = Power By Power -> timesText
   | Several ,? and Power -> timesText
 SAtom = s Index -> atom s
@@ -336,67 +321,71 @@ OfIndex = Index -> atom s
 OfArg = Arg -> atom s
 SVar = SAtom ~( Letters ) -> inLetters  # s_{2,1}(x_1,x_2)
   | Functor Cn -> inLetters  # Sym^4(C^2)
+Ones = Inside -> countOfOnes
 SVars = SVar -> list
   | SVar Exp -> listPower
   | SVars *|·|⊗? SVar -> add
-Product = product of? Both -> 3
-  | symmetrica . mult_schur_schur|outerproduct_schur ( Lams ) -> 5
-  | multiply Both -> 2
-  | littlewood - richardson product|rule of? for? Both -> 7
-  | LR|lr product|rule of? for? Both -> 5
+Product = symmetrica . mult_schur_schur|outerproduct_schur ( Lams )
+  | littlewood - richardson product|rule of? for? Both
+  | LR|lr product|rule of? for? Both
   | product of? NUM? schur functions :? Both -> 7
 SchurProduct = schur functions? product of|:? -> ""
   | outer product of|:? -> ""
 Question = Sum InVariables -> product
   | SchurProduct Sum -> bare
-  | SchurProduct ListProduct -> product
-  | SchurProduct Both -> product
+  | SchurProduct ListProduct|Both -> product
+  | SkewName shape? ListProduct -> product  # λ*μ, corner to corner
   | Sum ForGl -> ! product
   | CompactProduct -> ? product  # 21*21: or a product of numbers
   | SProduct -> ? product  # S_{3,2}*S_{2,1}: of Schur, or of Schubert
   | product of? SPair -> ? product
   | multiply SPair -> ? product
   | SVars -> multInLetters
+  | SAtom ~( Ones ) -> inGl  # s_{2,1}(1,1,1): a number in a plethysm stands for so many variables that are 1
+  | dimension of? Functor Cn -> inGl
+  | dimension of? GlOf Irreducible? OfArg -> inGl 5 3
+  | dimension of? Irreducible? OfArg ForGl -> inGl
+  | SAtom ~( Letters ) -> ? polynomial  # that of a permutation whose code increases
   | product of? And -> bare 3
   | multiply And -> bare 2
   | Product -> product
+  | product|multiply of? Both -> listProduct
+  | product|multiply of? Both InVariables -> product
   | Product InVariables -> product
 CompactProduct = Compact *|· Compact -> list
   | CompactProduct *|· Compact -> add
 # skew shapes, coefficients, numbers
-Inner = Lam -> 1
-  | Commas -> 1
-  | Blanks -> 1
-  | Compact -> 1
+Inner = Lam|Commas|Blanks|Compact
 Shapes = Inner Over Inner -> list 1 3
   | ( Inside ) Over ( Inside ) -> list 2 6
   | [ Inner Over Inner ] -> list 2 4
-Slash = ~_ ~{ Shapes } -> 3  # s_{321/21}
-  | ~_ ~( Shapes ) -> 3
-  | ~[ Shapes ] -> 2
-  | ~( Shapes ) -> 2  # s(32/1)
+Slash = ~_ ~{ Shapes }  # s_{321/21}
+  | ~_ ~( Shapes )
+  | ~[ Shapes ]
+  | ~( Shapes )  # s(32/1)
 Perp = ~^ ~⊥ -> ""
   | ~^ ~{ ⊥ } -> ""
-Slashed = s Slash -> 2
+Slashed = s Slash
   | s Round Over Round -> list 2 4  # s(3,2)/(1)
-  | s Round Over Empty -> list 2 4
-  | s Empty Over Empty -> list 2 4
+  | s Round|Empty Over Empty -> list 2 4
   | s Index Over s Index -> ? list 2 5  # s_λ/s_μ: or the quotient
   | s Index Over ~_ ~{ Sub } -> list 2 6  # s₃₂/₁
-  | s Index Perp s Index -> list 5 2
-  | s Index Perp ( s Index ) -> list 6 2
+  | LikeSchur Perp s Index -> list 4 1  # h_2^⊥ s_{3,1}
+  | LikeSchur Perp ( s Index ) -> list 5 1
   | s Index . skew_by ( s Index ) -> list 2 7  # Sage
-  | s ~( skewpartition ( [ Lams ] ) ) -> 6
-  | s . skew_schur ( Lams ) -> 5
+  | s ~( [ Lams ] )  # s([[3,2,1],[2,1]]), Sage
+  | s ~( skewpartition ( [ Lams ] ) )
+  | s . skew_schur ( Lams )
   | skew ( s Index , s Index ) -> inOrder 4 7  # Maple: the second by the first
-  | symmetrica . part_part_skewschur ( Lams ) -> 5
-  | S ~^ ~{ Shapes } -> 4  # a skew Specht module
+  | symmetrica . part_part_skewschur ( Lams )
+  | S ~^ ~{ Shapes }  # a skew Specht module
 SkewName = skew schur? functions|polynomials? of? for? -> ""
   | skew specht module|modules? of? -> ""
-Skewed = Slashed -> 1
-  | SkewName Slashed -> 2
-  | SkewName shape? Both -> 3
-  | SkewName shape? Skew -> 3
+Skewed = Slashed
+  | SkewName Slashed
+  | SkewName shape? Skew
+  | SkewName shape? Arg by|, Arg -> list
+  | SkewName shape? Arg and|with Arg -> ? list  # or each of the two
 Question = Convert? Skewed InVariables -> skew
   | Convert? Slashed ~( Letters ) -> skew
   | ribbon schur? functions? R|r Index -> ribbon 5
@@ -405,41 +394,36 @@ Question = Convert? Skewed InVariables -> skew
   | Inner Over Inner -> shapeOnly 1 3  # 321/21
   | Coproduct EqualsSum? -> coproduct
 LikeSchur = Atom -> likeSchur  # s_λ, h_n and e_n
-Coproduct = Δ of Arg -> 3
-  | Δ of? LikeSchur -> 3
-  | LikeSchur . coproduct ( ) -> 1
-  | coproduct|comultiplication of|:? Arg -> 3
-  | coproduct|comultiplication of|:? LikeSchur -> 3
-  | Δ|coproduct ( LikeSchur ) -> 3
-  | s Index ~( x , y ) ProductsOf -> 2
+Coproduct = Δ of Arg
+  | Δ of? LikeSchur
+  | LikeSchur . coproduct ( )
+  | coproduct|comultiplication of|:? Arg|LikeSchur
+  | Δ|coproduct ( LikeSchur )
+  | s Index ~( x , y ) ProductsOf
   | s Index ~( x|X ,|; y|Y ) -> ? 2  # or the polynomial in two variables
-  | LikeSchur ~[ X|A + Y|B ] -> 1
+  | LikeSchur ~[ X|A + Y|B ]
   | LikeSchur ~[ x + y ] -> ? 1  # or in two variables
-  | Sch Index ~( V ⊕ W ) -> 2
-  | Sch ~^ ~{ Sub } ~( V ⊕ W ) -> 4
+  | Sch Index ~( V ⊕ W )
+  | Sch ~^ ~{ Sub } ~( V ⊕ W )
 EqualsSum = = Σ s ~_ ~{ Greek / Greek } ⊗ s ~_ Greek -> ""
 ProductsOf = , in products s ~_ ~{ μ } ( x ) s ~_ ~{ ν } ( y ) -> ""
   | , in products s μ ( x ) s ν ( y ) -> ""
-Cell = Compact -> 1
-  | Greek = List -> 3
-  | Round -> 1
-  | Square -> 1
-  | { Inside } -> 2
+Cell = Compact
+  | Greek = List
+  | Round|Square
+  | { Inside }
   | ∅ -> list
-Spaced = Compact -> 1
-  | Blanks -> 1
+Spaced = Compact|Blanks
 Cells = Cell , Cell -> list  # 21,21
   | Spaced , Spaced -> list  # 2^2,2 1^2
   | Cell ␣Cell -> list
   | Bracketed ~Bracketed -> list
 Inners = Inner ; Inner -> list
-Pair "two partitions" = Cells -> 1
-  | Inners -> 1
+Pair "two partitions" = Cells|Inners
   | { Sub } { Sub } -> list 2 5
-Bracketed = Round -> 1
-  | Square -> 1
-Down2 = ~_ ~{ Pair } -> 3
-Monomial = XPower -> 1
+Bracketed = Round|Square
+Down2 = ~_ ~{ Pair }
+Monomial = XPower
   | Monomial *|·? XPower -> join
 XPower = XLetter -> part
   | XLetter ~^ ~NUM -> part
@@ -454,8 +438,9 @@ Coefficient = c Above Down2 -> coef
   | c|LR ~( Inner ; Inners ) -> coefWithPair 3 5
   | c|LR ~( Cells ; Cell ) -> coefWithPair 5 3
   | c ~( Cell , Cells ) -> coefWithPair
-Question = CoefName? for? of? Coefficient -> 4
+Question = CoefName? for? of? Coefficient
   | CoefName for? of? Cell ,|;|: Pair -> coefWithPair
+  | CoefName for? of? Both in Arg -> coef 6 4
   | lrcoefficient [ Lam , Lams ] -> coefWithPair
   | c Down2 AllNu? -> ? product 2  # no outer partition: all of them
   | c Down2 AllAbove AllNu? -> product 2
@@ -469,20 +454,18 @@ AllAbove = ~^ Greek -> ""
   | ~^ ~{ Greek } -> ""
 CoefOf = plethysm? coefficient|multiplicity|mult of? -> ""
   | CoefName of? for? -> ""
-Question = CoefOf Atom in Term -> coefficientIn
-  | CoefOf OfMonomial in Term -> coefficientIn
-  | CoefOf Atom in product of? And -> coefficientIn 2 6
-  | CoefOf Atom in product of? Term -> coefficientIn 2 6
-  | how many|often times? does Atom occur|appear in Term -> coefficientIn 5 8
+Question = CoefOf Atom|OfMonomial in Term -> coefficientIn
+  | CoefOf Atom in product of? And|Term -> coefficientIn 2 6
+  | how many|often ·? does Atom occur|appear in Term -> coefficientIn 5 8
   | CoefOf Atom in Plethysm -> coefficientInPlethysm
   | [ Atom ] Sum -> coefficientIn  # [s_λ] s_μ s_ν
   | CoefOf Arg in Both -> coef
-  | CoefOf S|V Index in Tensor -> coef
-  | CoefOf S Above in Specht -> coef
+  | CoefOf S|V Index in Tensor -> coefNot0  # (a Kronecker coefficient has other sizes)
+  | CoefOf S Above in Specht -> coefNot0
   | CoefOf S Above in ind ( Specht ) -> coef
-  | mult|multiplicity of? weight Arg in V Index -> kostkaOf 7 4
+  | mult|multiplicity of? weight Arg in V Index -> ? kostkaOf 7 4  # or by labels of Dynkin
   | weight multiplicity of? Arg in V Index -> kostkaOf 7 4
-  | weight multiplicities of? V OfIndex -> expand m
+  | weight multiplicities of? V OfIndex -> ? expand m
   | weight multiplicities of? V OfIndex ForGl -> ! expand m 5
 Kostka = K|kostka ~( Pair ) -> kostka
   | K ~_ ~{ Greek ,? Cell } -> allKostka h
@@ -491,10 +474,10 @@ Kostka = K|kostka ~( Pair ) -> kostka
   | K Down2 -> kostka  # K_{31,1111}
   | K ~_ ~{ Shapes ,? Cell } -> kostkaSkew 4 6
 KostkaName = kostka number|numbers|coefficient? of? for? -> ""
-Question = Kostka -> 1
-  | KostkaName Kostka -> 2
+Question = Kostka
+  | KostkaName Kostka
   | Symmetrica? kostka_number ( Lams ) -> kostka  # Sage
-  | kostkanumber [ Lams ] -> kostka
+  | kostkanumber [|( Lams ]|) -> kostka
   | KostkaName Pair -> kostka
   | KostkaName OfShape? Arg OfContent Arg -> kostkaOf
   | KostkaName Arg and Arg -> kostkaOf
@@ -507,6 +490,8 @@ Symmetrica = symmetrica . -> ""
 Cardinality = . cardinality ( ) -> ""
 Semistandard = ssyt|ssyts -> ""
   | semistandard|column -? strict? young? tableaux -> ""
+Entries = ,|with? entries ≤ -> ""
+  | ,|with? entries at most -> ""
 Standard = syt|syts -> ""
   | standard young? tableaux -> ""
 OfShape = of|for -> ""
@@ -514,6 +499,7 @@ OfShape = of|for -> ""
   | of? skew? shape? Greek / Greek = -> ""
 OfContent = ,|and|with? content|weight|type -> ""
 Question = Count Semistandard OfShape? Arg OfContent Arg -> kostkaOf 4 6
+  | Count Semistandard OfShape? OfArg Entries NUM -> inGl
   | Count Semistandard OfShape? Skew OfContent Arg -> kostkaSkew 4 6
   | Count Standard OfShape? Arg -> orSize 4  # #SYT(5): of a shape, or of a size
   | Count tableaux OfShape? Arg -> ? standardOf 4  # standard, or semistandard
@@ -531,7 +517,7 @@ Question = Count Semistandard OfShape? Arg OfContent Arg -> kostkaOf 4 6
   | all? Semistandard OfShape? Skew OfContent Arg -> ! kostkaSkew
   | ssyt ( Inner , Inner ) -> ! kostkaOf
   | all? Standard OfShape? Arg -> ! standardOf
-Question = f Upper -> standardOf  # f^{(3,2,1)}
+Question = f Upper -> orSize  # f^{(3,2,1)}
   | f ~^ ~Digits -> ? standardOf  # f^2: or a square
   | f ~^ ~{ Shapes } -> standardSkew 4
   | f Lower -> ? standardOf
@@ -546,7 +532,7 @@ Question = f Upper -> standardOf  # f^{(3,2,1)}
 Labelled = labelled|labeled|indexed by? -> ""
 Irreducible = irrep|representation|module -> ""
   | irreducible|specht representation|module? -> ""
-OfS = of|for symmetric? group? Sn -> 4
+OfS = of|for symmetric? group? Sn
 OfSize = Arg OfS -> ofSize 2 1
   | Sn -? representation|module|irrep Labelled? Arg -> ofSize 1 5
   | OfS of|for? Arg -> ofSize
@@ -555,30 +541,30 @@ Character = irreducible? character of? -> ""
   | value of character of? -> ""
   | character value of? -> ""
   | value of -> ""
-Module_ = Arg -> 1
-  | Irreducible Labelled? Arg -> 3
-  | for Arg -> 2
-  | OfSize -> 1
+Module_ = Arg
+  | Irreducible Labelled? Arg
+  | for Arg
+  | OfSize
 AtClass = evaluated? at|on|for cycle|conjugacy? type|class? of? cycle? type? -> ""
-Cycle = NUM - cycle -> 1
+Cycle = NUM - cycle
   | transposition -> word "2"
   | identity -> word "1"
 AboveOfS = Above OfS -> ofSize 2 1
+Number_ = ~_|^ ~NUM -> list
+  | ~_|^ ~{ NUM } -> list
 Question = χ Above ~( Inside ) -> characterOf  # χ^{31}(22)
   | χ Above ~( Round ) -> characterOf
   | χ Above Lower -> characterOf
   | χ Lower Above -> characterOf 3 2  # which one is the irreducible?
   | χ Lower Above -> characterOf
-  | χ Lower ~( Inside ) -> characterOf
-  | χ Lower ~( Round ) -> characterOf
+  | χ Lower ~( Inside|Round ) -> characterOf
   | χ ~( Inner ; Inner ) -> characterOf
   | χ Above -> ? characterOnly
   | χ ( Lam , Lam ) -> characterOf  # Maple
   | χ Square Square -> characterOf
   | χ Round Round -> characterOf
   | Symmetrica? charvalue ( Lam , Lam ) -> characterOf
-  | Character? χ Above AtClass Arg -> characterOf 3 5
-  | Character? χ AboveOfS AtClass Arg -> characterOf 3 5
+  | Character? χ Above|AboveOfS AtClass Arg -> characterOf 3 5
   | Character? χ Above AtClass Cycle -> characterAtCycle 3 5
   | Character Module_ AtClass Arg -> characterOf
   | Character Module_ AtClass Cycle -> characterAtCycle
@@ -586,37 +572,37 @@ Question = χ Above ~( Inside ) -> characterOf  # χ^{31}(22)
   | < Sum , Sum > -> inner
   | Atom . scalar ( Sum ) -> inner  # Sage
   | ( Sum , Sum ) -> ? inner
-  | scalar|hall product of Sum and Sum -> inner
+  | scalar|hall inner? product of Sum and Sum -> inner
   | inner product of Sum and Sum -> ? inner  # or the internal product
 # ---------------------------------------------------------------- Schubert polynomials
 PSub = Inside -> orSimple
   | Simple -> simple
   | Round -> orCode
-  | Square -> 1
+  | Square
 Digit = NUM -> digits
-Perm "a permutation" = ~_ ~{ PSub } -> 3
+Perm "a permutation" = ~_ ~{ PSub }
   | ~_ ~Digit -> orSimple
   | ~_ ~Round -> orCode
-  | ~_ ~Square -> 2
-  | ~Square -> 1
+  | ~_ ~Square
+  | ~Square
   | ~Round -> orCode
-  | ~( Square ) -> 2
-  | ~[ { Inside } ] -> 3
+  | ~( Square )
+  | ~[ { Inside } ]
   | ~NUM -> digits
   | ~NUM ~, ~Tight -> ? join  # S10,1,2,..
-SPoly "a Schubert polynomial" = Sch|schubert Perm -> 2
-  | symmetrica? .? t_schubert_polynom ( SPoly ) -> 5
-  | 𝔖 Perm ~( x ) -> 2
-  | 𝔖 Perm ~( Letters ) -> schubertIn
+SPoly "a Schubert polynomial" = Sch|schubert Perm
+  | symmetrica? .? t_schubert_polynom ( SPoly )
+  | 𝔖 Perm ~( x )
+  | 𝔖 Perm ~( Letters ) -> schubertIn  # in as many letters as it has, or more
   | S Perm ~( x ) -> ? 2  # or a Schur polynomial
   | S Perm ~( Letters ) -> ? schubertIn
-  | schubertpolynomialring ( Ring ) ( Square ) -> 6
-  | SPoly . expand ( ) -> 1
-  | { Sch } Perm -> 4  # {\mathfrak S}_w
-  | X ~Square -> 2  # Sage
-  | X ~( Square ) -> 3
-  | schubert polynomials of? SPoly -> 4
-DPoly = SPoly ~( x ; y ) -> 1
+  | schubertpolynomialring ( Ring ) ( Square )
+  | SPoly . expand ( )
+  | { Sch } Perm  # {\mathfrak S}_w
+  | X ~Square  # Sage
+  | X ~( Square )
+  | schubert polynomials of? SPoly
+DPoly = SPoly ~( x ; y )
   | SPoly ~( x , y ) -> typedWith xy  # or the polynomial in two variables
 SPolys = SPoly -> list
   | SPoly Exp -> listPower
@@ -631,10 +617,9 @@ Flags = Fl ( NUM ) -> ""
 InFlags = in? cohomology? of? Flags -> ""
   | in? H Star ~( Flags ) -> ""
   | in? H ~_ T ~^ ~Ast ~( Flags ) -> ""
-FlagClass = σ Perm -> 2
-  | [ X Perm ] -> 3
-Monk = monk rule|formula? of|for|:? -> ""
-  | schubert structure constants|coefficients of|for|:? -> ""
+FlagClass = σ Perm
+  | [ X Perm ]
+Monk = schubert structure constants|coefficients of|for|:? -> ""
   | schubert polynomials? product|multiplication of|for|:? -> ""
 OfW = w = -> ""
   | F ~_ w for|with w = -> ""
@@ -642,10 +627,11 @@ OfW = w = -> ""
 InSchubert = In schubert polynomials|basis|classes -> ""
 Question = SPolys -> schubertProduct
   | Convert? SPolys InSchubert -> schubertProduct 2
-  | Monk SPolys -> schubertProduct
-  | Monk WOther -> permuted schubmult
+  | RuleOf WOther -> permuted schubmult
   | InFlags :|, SPolys -> ? schubertProduct
-  | FlagClass Dot? FlagClass InFlags -> ? permuted schubmult
+  | FlagClass Dot? FlagClass InFlags? -> ? permuted schubmult
+  | Compact *|· Compact -> ? permuted schubmult
+  | product|multiply of? Compact By Compact -> ? permuted schubmult
   | product of? schubert classes FlagClass By FlagClass InFlags -> ? permuted schubmult
   | multiply SPolys By SPoly -> permuted schubmult 2 4
   | multiply schubert polynomials of? for? WOther -> permuted schubmult
@@ -662,7 +648,7 @@ Question = SPolys -> schubertProduct
   | lrcalc . mult_schubert WOther -> permuted schubmult
   | product of? schubert polynomials of? for? WOther -> permuted schubmult
   | schubert polynomials of? for? OfW? WPerm -> permuted schubert 6
-  | F Perm -> ? stanleyOf  # F_{321}: of Stanley, or fundamental
+  | F Perm -> ? stanleyOf  # F_{321}: of Stanley, of w or of its inverse, or fundamental
   | F Perm InVariables -> ? stanleyOf
   | Convert? F Perm InSchur -> ? stanleyOf
   | Convert Stanley F Perm InSchur? -> stanleyOf 4
@@ -672,6 +658,8 @@ Question = SPolys -> schubertProduct
   | permutation ( Square ) . stanley_symmetric_function ( ) -> ? stanleyOf
   | F Perm ~( Letters ) -> ? stanleyOf
   | Stanley F Perm -> stanleyOf
+  | Count reduced words of|for? OfW? WPerm -> ! stanleyIn
+  | Count pipe dreams of|for? OfW? WPerm -> ! permuted schubert
   | Stanley F Perm InVariables -> stanleyOf
   | Stanley of? for? OfW? WPerm -> stanleyOf 5
   | Stanley of? for? OfW? WPerm InVariables -> stanleyOf 5 6
@@ -680,12 +668,13 @@ InSchur = In s -> ""
 Letters = XLetter -> nextLetter "0"
   | Letters , XLetter -> nextLetter
   | Letters , . . . , XLetter -> 7
-XLetter = x ~_ ~NUM -> 3
-  | x ~NUM -> 2
+XLetter = x ~_ ~NUM
+  | x ~NUM
 Stanley = stanley symmetric? functions? -> ""
   | stable schubert polynomials -> ""
 # ---------------------------------------------------------------- the Grassmannian
-GrOf "Gr(k,n)" = Gr ( NUM , NUM ) -> grOrLines  # Gr(1,3): a plane, or the lines of P^3
+GrOf "Gr(k,n)" = Gr ~_ ~{ NUM , NUM } -> grassmannian
+  | Gr ( NUM , NUM ) -> grOrLines  # Gr(1,3): a plane, or the lines of P^3
   | Gr|G ( NUM , C ~^ ~NUM ) -> grassmannian  # Gr(2,C^5)
   | Gr|G ( NUM , C ~^ ~{ NUM } ) -> grassmannian
   | grassmannian Gr? ( NUM , NUM ) -> grOrLines
@@ -702,25 +691,28 @@ Star = ~Ast -> ""
 InField = , Z|ℤ|Q|ℚ|C|ℂ -> ""
 KAndN = NUM , NUM -> grassmannian
 Small = small? quantum cohomology ring? -> ""
-Space "Gr(k,n)" = GrOf -> 1
+Space "Gr(k,n)" = GrOf
   | H|A Star ~( GrOf InField? ) -> space ordinary 4
+  | CH Star? ~( GrOf InField? ) -> space ordinary 4
   | cohomology|chow ring? of GrOf -> space ordinary 4
   | QH Star? ~( GrOf InField? ) -> space quantum 4
   | Small of? GrOf -> space quantum
   | QH ( KAndN ) -> ? space quantum
   | qcoh of? GrOf -> space quantum
-Where = Space -> 1
-  | in|of|for|on Space -> 2
+Where = Space
+  | in|of|for|on Space
 QWhere = Where -> space quantum
 OWhere = Where -> space ordinary
+QPower = q -> word "1"
+  | q ~^ ~NUM
+  | q ~^ ~{ NUM }
 PointClass = point class? -> point
   | [ pt ] -> point
-Class "a class" = σ Index -> 2
-  | s Index -> 2
-  | Lam -> 1
+Class "a class" = σ|s Index
+  | Lam
   | NUM -> ! digits  # 2*1 in QH*(Gr(2,4))
-  | [ X Index ] -> 3
-  | PointClass -> 1
+  | [ X Index ]
+  | PointClass
   | hyperplane class? -> copies "1" "1"
   | h|H|x -> ? copies "1" "1"
   | σ ~_ ~□ -> copies "1" "1"
@@ -729,7 +721,7 @@ Class "a class" = σ Index -> 2
 ClassPower = Class -> list
   | σ IndexPower -> list
   | Class Exp -> listPower
-Classes = ClassPower -> 1
+Classes = ClassPower
   | Classes ·|⊗|∩ ClassPower -> addAll
   | Classes * ClassPower -> addAs times  # in a Gr(k,n): the product of H*, or the quantum product
   | Classes Cup ClassPower -> addAs cup  # that of H*, or the quantum product
@@ -745,17 +737,14 @@ QName = small? quantum product|multiplication|multiply|pieri|monk rule? of|for? 
   | quantum LrName coefficients|product|rule of|for? -> ""
 LrName = LR|lr -> ""
   | littlewood - richardson -> ""
-ProductOfPair = ProductOf ClassPair -> 2
-  | cup ProductOf ClassPair -> typedWith cup
-  | cup ProductOf Classes -> typedWith cup
+ProductOfPair = ProductOf ClassPair
+  | cup ProductOf ClassPair|Classes -> typedWith cup
 Stop = ,|:|; -> ""
 Question = Classes Equals? Stop? Where -> classesIn
-  | Where Stop? Classes -> classesIn 3 1
-  | Where Stop? ProductOfPair -> classesIn 3 1
+  | Where Stop? Classes|ProductOfPair -> classesIn 3 1
   | ProductOfPair ,? Where -> classesIn
   | product of? Both Where -> classesIn
-  | QName Both QWhere -> classesIn
-  | QName ClassPair QWhere -> classesIn
+  | QName Both|ClassPair QWhere -> classesIn
   | QName ~:? Classes QWhere -> classesIn
   | quantum ~: Classes QWhere -> classesIn
   | Classes mod q ,? OWhere -> classesIn
@@ -765,6 +754,7 @@ Question = Classes Equals? Stop? Where -> classesIn
   | Classes Where ,? coefficient of PointClass -> integral 1 2
   | coefficient of? PointClass in Classes Where -> integral 5 6
   | coefficient of? Class in Classes Where -> classCoefficient
+  | coefficient of? QPower Class in Classes QWhere -> classCoefficient 4 6 7 3
   | intersection number of? Classes Where -> integral 4 5
   | GwName? < Class , Class , Class > ~_ ~{ d = NUM } Where -> invariant
   | GwName? < Class , Class , Class > ~_ ~NUM Where -> invariant
@@ -783,12 +773,11 @@ SProduct2 = σ Index -> list
   | σ Index Exp -> listPower
   | SProduct2 Dot? σ Index -> add 1 4
 SigmaPair = SProduct2 By SProduct2 -> addAll
-ListFactor = Round -> list
-  | Square -> list
-  | { Inside } -> list
+Braced = { Inside } -> typedWith braces
+ListFactor = Round|Square|Braced -> list
   | Round Exp -> listPower
 ListProduct = ListFactor *|· ListFactor -> addAll  # (2,1)*(2,1)
-  | { Inside } . { Inside } -> list  # SCHUR
+  | Braced . Braced -> list  # SCHUR
   | ListProduct *|· ListFactor -> addAll
   | ListFactor ∗ ListFactor -> ? addAll  # or the internal product
   | ListProduct ∗ ListFactor -> ? addAll
@@ -801,17 +790,21 @@ Reflections = Reflection *|·? Reflection -> list
 Braces = { Inside } * { Inside } -> list 2 6
 Juxtaposed = Round Round -> list
   | Juxtaposed Round -> add
+Other = Reflections -> product  # s_1 s_2: of s, or of simple transpositions
+  | Braces -> product  # {2,1}*{2,1}: of Littlewood, or his inner product
+  | χ Number_ ~( Inside ) -> characterOf  # χ_3(2,1): or the third row of a table, or a power
+  | χ Number_ Number_ -> characterOf
+  | Character? χ Number_ AtClass Arg -> characterOf
 Question = SProduct2 -> ! product  # σ_1^4: no Gr(k,n) is said
   | ProductOf SigmaPair -> ! product
   | ProductOf SigmaPair in grassmannian -> ! product 2
   | ListProduct -> listProduct
   | ListProduct InVariables -> product
   | Juxtaposed -> ? product  # (3,1)(2): a product of s, or of cycles
-  | Reflections -> orOther  # s_1 s_2: of s, or of simple transpositions
-  | Braces -> orOther  # {2,1}*{2,1}: of Littlewood, or his inner product
+  | Other -> orOther  # which is not computed here
 # ---------------------------------------------------------------- modules of GL_n and of S_n
 Indexed = s Index -> typedWith index
-  | V Index -> 2
+  | V Index
   | S Index V_ -> typedWith index
 TensorOf = tensor product? decomposition? of? -> ""
 TensorPair = Indexed By Indexed -> list
@@ -820,48 +813,46 @@ TensorPair = Indexed By Indexed -> list
 IntoSum = into|in|as -> ""
   | into|as sum of -> ""
 Irreducibles = IntoSum irreducible|irreducibles|irreps representations|components|constituents|modules|characters? -> ""
-Tensor = ListFactor ⊗ ListFactor -> addAll
-  | Tensor ⊗ ListFactor -> addAll
+Tensor = ListFactor|Tensor ⊗ ListFactor -> addAll
   | Indexed ⊗ Indexed -> list
   | Tensor ⊗ Indexed -> add
-Degree = ~^ ~NUM -> 2
-  | ~^ ~{ NUM } -> 3
-  | ~sup -> 1
+Degree = ~^ ~NUM
+  | ~^ ~{ NUM }
+  | ~sup
 Functor "a functor" = sym Degree -> functor h
   | symmetric square of? -> functor h "2"
   | exterior square of? -> functor e "2"
   | symmetric cube of? -> functor h "3"
   | exterior cube of? -> functor e "3"
   | Λ Degree -> functor e
-  | S Above -> atom s 2
-  | S Index -> atom s 2
+  | S Above|Index -> atom s 2
 V_ = V -> ""
   | C ~^ ~n -> ""
   | ( V ) -> ""
-Cn = C ~^ ~NUM -> 3
-  | ( C ~^ ~NUM ) -> 4
+Cn = C ~^ ~NUM
+  | ( C ~^ ~NUM )
 Vector = V -> copies "1" "1"
 OneV = Vector -> atom s
-Module = OneV -> 1
-  | Functor V_ -> 1
-Modules = Module ⊗ Module -> timesText
-  | Modules ⊗ Module -> timesText
+Module = OneV
+  | Functor V_
+Modules = Module|Modules ⊗ Module -> timesText
+  | Functor ( V_ ) ( Functor V_ ) -> ? timesText
   | OneV TensorPower -> powerOf
 TensorPower = ~^ ~{ ⊗ NUM } -> list 4
 Composite = Functor ( Functor V_ ) -> composed
-  | Functor ( V_ ) ( Functor V_ ) -> composed
+  | Functor ( V_ ) ( Functor V_ ) -> ? composed
   | Functor Functor V_ -> composed
   | Functor ( Modules ) -> composed
 CompositeIn = Functor ( Functor Cn ) -> composed 1 3
-GlOf = GL|U ~_ ~NUM -> 3
-  | GL|U ~_ ~{ NUM } -> 4
-  | GL|U ( NUM ) -> 3
-  | GL ~NUM -> 2
-  | GlOf ~( C ) -> 1
-  | GL ( NUM , C ) -> 3
-ForGl = for|of|in|over|,? GlOf -> 2
-  | as a? GlOf -? representations|representation|modules|module|characters -> 3
-  | ,|for|with|if|and dimension V = NUM -> 5
+GlOf = GL|U ~_ ~NUM
+  | GL|U ~_ ~{ NUM }
+  | GL|U ( NUM )
+  | GL ~NUM
+  | GlOf ~( C )
+  | GL ( NUM , C )
+ForGl = for|of|in|over|,? GlOf
+  | as a? GlOf -? representations|representation|modules|module|characters
+  | ,|for|with|if|and dimension V = NUM
 ForV = for|of|over|under GL ( V ) -> ""
   | as a? GL ( V ) -? representations|representation|module|modules -> ""
 Specht = S Above ⊗ S Above -> list 2 5
@@ -869,25 +860,24 @@ Specht = S Above ⊗ S Above -> list 2 5
 Young = Sn *|· Sn -> list
   | Young *|· Sn -> add
 YoungIn = Young to Sn -> ofSize 3 1
-IndFrom = ind ~_ ~{ Young } -> 4
+IndFrom = ind ~_ ~{ Young }
   | ind ~_ ~{ Young } UpTo -> ofSize 6 4
-Spechts = S Above *|·|⊠|⊗ S Above -> list 2 5
-  | S Above By S Above -> list 2 5
+Spechts = S Above *|·|⊠|⊗|By S Above -> list 2 5
 SpechtsTo = Spechts to Sn -> ofSize 3 1
 Induce = induction product of? -> ""
   | induce -> ""
-UpTo = ~^ ~{ Sn } -> 3
+UpTo = ~^ ~{ Sn }
 Into = ForV -> ""
   | Irreducibles ForV? -> ""
   | in|into schur functions|functors -> ""
 Product_ = product of? -> ""
   | TensorOf -> ""
 Littlewood = ListFactor ⊗ ListFactor -> littlewood
-FunctorOf = Functor of Functor -> composed
+FunctorOf = Functor of Functor|Atom -> composed
 ModulePair = Module By Module -> timesText
 Restrict = restriction|restrict|res of? specht? module? -> ""
-Sn = S ~_ ~NUM -> 3
-  | S ~_ ~{ NUM } -> 4
+Sn = S ~_ ~NUM
+  | S ~_ ~{ NUM }
 Pair_ = young subgroup|subgroups -> ""
   | young? subgroup|subgroups? SAny *|· SAny -> ""
 SAny = Sn -> ""
@@ -909,10 +899,8 @@ Question = Tensor -> ! product  # of modules of GL
   | FunctorOf -> plethysm s
   | CompositeIn Into? -> ! plethysm s 1
   | Specht -> ? product  # induced, or the Kronecker product
-  | ind ~( Specht ) -> product
-  | ind ~( Spechts ) -> product
-  | Induce Spechts -> product
-  | Induce SpechtsTo -> product
+  | ind ~( Specht|Spechts ) -> product
+  | Induce Spechts|SpechtsTo -> product
   | Induce Spechts from YoungIn -> induced 4 2
   | ind ~_ ~{ Sn } UpTo S Above -> inducedByOne 4 6 8
   | ind UpTo ~_ ~{ Sn } S Above -> inducedByOne 5 2 8
@@ -928,19 +916,18 @@ Question = Tensor -> ! product  # of modules of GL
   | Permutations ModulesOf -> expand s 1
 Permutations = M Above -> atom h
 ModulesOf = in|into|to specht|irreducible? modules -> ""
-Fused = Tensor -> 1
-  | Both -> 1
+Fused = Tensor|Both
 LieName = su|SU|sl|SL -> ""
   | widehat ~{ su|sl } -> ""
-Lie = LieName ( NUM ) -> 3
+Lie = LieName ( NUM )
   | U ( NUM ) -> ? 3
-  | LieName ~_ ~NUM -> 3
-  | LieName ~NUM -> 2
-  | LieName ~_ ~{ NUM } -> 4
-Level = at|, level NUM -> 3
-  | , k = NUM -> 4
-  | level NUM -> 2
-  | ~_ ~NUM -> 2
+  | LieName ~_ ~NUM
+  | LieName ~NUM
+  | LieName ~_ ~{ NUM }
+Level = at|, level NUM
+  | , k = NUM
+  | level NUM
+  | ~_ ~NUM
 TypedLists = Lam Lam -> list
 FusionOf = verlinde|fusion fusion? product|rule|rules|coefficients|algebra|formula|ring? of|for|:? -> ""
 Question = Fused for|of|in|,? Lie Level -> fusionFor
@@ -951,29 +938,23 @@ Question = Fused for|of|in|,? Lie Level -> fusionFor
 
 # ---------------------------------------------------------------- the arguments of a command
 Operand = Lam -> operand list
-  | Letter -> 1
+  | Letter
 Letter = TypedLetter -> operand list
-TypedLetter = s|σ Index -> typedWith index
-  | s|σ IndexPower -> typedWith index
+TypedLetter = s|σ Index|IndexPower -> typedWith index
 Times = Lam Exp -> operandPower  # (2,1)^2
   | s|σ Index Exp -> operandPower
-Any "a list" = Operand -> 1
-  | Times -> 1
+Any "a list" = Operand|Times
   | Blanks -> operand blanks
-  | Tightly -> operand commas
-  | Loosely -> operand commas
+  | Tightly|Loosely -> operand commas
   | Compact -> operandDigits
-Cut = Operand -> 1
-  | Times -> 1
+Cut = Operand|Times
   | Tightly -> operand commas
   | Compact -> operandDigits
   | Blanks -> ? operand blanks  # 2,1 1,1 as 2 · (1 1) · 1
-Loose = Cut -> 1
+Loose = Cut
   | Blanks -> operand blanks
-Beside = Operand -> 1
-  | Times -> 1
-  | Tightly -> operand commas
-  | Loosely -> operand commas
+Beside = Operand|Times
+  | Tightly|Loosely -> operand commas
   | Compact -> operandDigits
 Dash = Any ␣- ␣Any -> list
   | Dash ␣- ␣Any -> add
@@ -981,8 +962,7 @@ DashTight = Any - Any -> ! list  # 2 1 -1: a sign right before a number
   | DashTight - Any -> add
 Star_ = Any *|·|∗|⊗ Any -> list
   | Star_ *|·|∗|⊗ Any -> add
-Comma = CommaA -> 1
-  | CommaB -> 1
+Comma = CommaA|CommaB
 CommaA = Cut , Cut -> list
   | CommaA , Cut -> add
 CommaB = Loose , ␣Loose -> list  # 2 1, 2 1
@@ -1007,12 +987,12 @@ Factors "lists" = Dash -> factorsOf dash
   | Star_ -> factorsOf star
   | Comma -> factorsOf comma
   | Side -> factorsOf side
-  | ( Call ) -> 2
+  | ( Call )
   | ( Side ) -> factorsOf side
   | ( Dash ) -> factorsOf dash
   | ( Star_ ) -> factorsOf star
   | Times -> factorsOf star
-Opt = Rows -> 1
+Opt = Rows
   | -m -> word -m
 Rows "the number of variables" = -r NUM -> variables
   | in NUM variables -> variables
@@ -1034,8 +1014,7 @@ OfAny = AnyList -> atom s
 OfOperand = OperandList -> atom s
 Scaled = Scalar ~OfLam -> timesText  # mult 2(2,1) - 1: a coefficient
   | Scalar ~SAtom -> timesText
-  | Negative ␣- ␣OfAny -> timesText
-  | Scaled ␣- ␣OfAny -> timesText
+  | Negative|Scaled ␣- ␣OfAny -> timesText
   | Scaled Dot? OfOperand -> timesText
 Negative = Minus OfOperand -> written ""
 Command = coef|lrcoef|LR Factors -> coefOf
@@ -1050,22 +1029,21 @@ StarLists = AnyList *|·|∗|⊗ AnyList -> list
 Skew "a skew shape" = AnyList Over AnyList -> list
   | ( AnyList Over AnyList ) -> list
   | [ AnyList Over AnyList ] -> list
-Shape "a skew shape" = Skew -> 1
+Shape "a skew shape" = Skew
   | Factors -> shapeOfTwo
   | AnyList ␣- ␣AnyList -> ! list  # skew (3,2,1) - (2,1)
   | [ Square , Square ] -> list
-One = AnyList -> 1
-  | ( AnyList ) -> 2
+One = AnyList
+  | ( AnyList )
 Box = NUM ,? NUM -> boxOf
-BoxOrN = Box -> 1
+BoxOrN = Box
   | NUM ,? NUM -> fitting  # 2 4: of k and n-k, or of k and n
 Command = quantum QWhere ,|:? Factors -> productIn 4 2
   | quantum Factors QWhere -> productIn
   | quantum QWhere ,|:? Box Factors -> ? productIn 5 2 4  # the numbers of Gr(k,n) once more
   | quantum Box Factors QWhere -> ? productIn 3 4 2
   | quantum Boxes Factors -> productIn 3 2  # quantum 2 2 (2,1) (2,1)
-  | quantum ( Boxes , Call ) -> productIn 5 3
-  | quantum ( QWhere , Call ) -> productIn 5 3
+  | quantum ( Boxes|QWhere , Call ) -> productIn 5 3
   | quantum ( Boxes ) Factors -> ! productIn 5 3
   | quantum NUM Factors -> ! quantumLeast 3 2  # n-k is missing
   | quantum Factors -> ! quantumLeast  # k and n-k are missing
@@ -1076,17 +1054,14 @@ Command = quantum QWhere ,|:? Factors -> productIn 4 2
   | fusion ( NUM , NUM ) Factors -> ! fusionOf 7 3 5
   | fusion NUM Factors -> ! fusionOf 3 2
   | fusion Factors -> ! fusionOf
-WPerm "a permutation" = Square -> 1
-  | permutation ( Square ) -> 3
-  | ( permutation ( Square ) ) -> 4
-  | ( { Inside } ) -> 3
-  | { Inside } -> 2
-  | Cycles -> 1
-  | Compact -> 1
-  | Commas -> 1
-  | Blanks -> 1
-  | ( Square ) -> 2
-  | Sch Perm -> 2
+WPerm "a permutation" = Square
+  | permutation ( Square )
+  | ( permutation ( Square ) )
+  | ( { Inside } )
+  | { Inside }
+  | Cycles|Compact|Commas|Blanks
+  | ( Square )
+  | Sch Perm
   | σ ~Index -> ! 2
   | Simple -> simple
 Simple = s ~_ ~NUM -> list  # s_1 s_2: simple transpositions
@@ -1101,8 +1076,7 @@ WOther "two permutations" = ( Square , Square ) -> list
   | WPerm ␣- ␣WPerm -> list
   | WPerm *|· WPerm -> list
   | WPerm WPerm -> list
-  | WPerm , WPerm -> list
-  | WPerm and WPerm -> list
+  | WPerm ,|and WPerm -> list
 Command = schubert WPerm -> permuted schubert
   | growth WPerm -> permuted growth
   | schubmult WOther -> permuted schubmult
@@ -1112,11 +1086,11 @@ Command = schubert WPerm -> permuted schubert
   | stanley InVariables WPerm -> stanleyOf 3 2
   | stanley ( NUM , WPerm ) -> stanleyOf 5 3
   | rsk Word -> rsk
-Word "a word" = WPerm -> 1
-  | w = WPerm -> 3
+Word "a word" = WPerm
+  | w = WPerm
   | word? Blanks -> lettersOf  # 11 22: the word 1122, too
-  | word InTurn -> 2
-  | permutation WPerm -> 2
+  | word InTurn
+  | permutation WPerm
   | empty word -> list
 Question = fomin? growth diagram of? for? permutation? OfW? WPerm -> permuted growth 8
   | permutation ( Square ) . robinson_schensted|left_tableau|right_tableau ( ) -> rsk
@@ -1125,17 +1099,13 @@ Question = fomin? growth diagram of? for? permutation? OfW? WPerm -> permuted gr
   | Rsk of|for|to|on? Word -> rsk
   | P and|, Q tableaux|tableau? of|for Word -> rsk
   | P|Q ~( WPerm ) -> ? rsk  # or a function P of Hall and Littlewood
-InTurn = Inside -> 1
-  | Round -> 1
-  | Square -> 1
-  | Part -> 1
+InTurn = Inside|Round|Square|Part
 Rsk = rsk correspondence|insertion|tableaux? -> ""
   | row|schensted insertion|insert -> ""
   | robinson - schensted -? knuth? correspondence|insertion? -> ""
   | insertion|recording|P|Q tableau -> ""
   | insertion|recording tableaux -> ""
-TRow = Square -> 1
-  | Round -> 1
+TRow = Square|Round
   | [ ] -> list
 TRows = TRow -> list
   | TRows ,? TRow -> add
@@ -1153,56 +1123,53 @@ Slashes = BRow / BRow -> list
   | Slashes / BRow -> add
 Run = NUM -> list
 RunRow = Run -> list
-OneRow = Square -> 1
-  | Blanks -> 1
-Tableau "a tableau" = [ TRows ] -> 2
-  | ( TRows ) -> 2
-  | young ( YRows ) -> 3  # \young(13,2)
-  | young { YRows } -> 3
-  | ytableau ARows ytableau -> 2
-  | tableau { TRows } -> 3
-  | tableau ( [ TRows ] ) -> 4  # Sage
+OneRow = Square|Blanks
+Tableau "a tableau" = [ TRows ]
+  | ( TRows )
+  | young ( YRows )  # \young(13,2)
+  | young { YRows }
+  | ytableau ARows ytableau
+  | tableau { TRows }
+  | tableau ( [ TRows ] )  # Sage
   | Slashes -> typedWith run  # 12/3: the rows 1 2 and 3, or 12 and 3
   | [ Slashes ] -> typedWith run
   | RunRow -> typedWith run
   | OneRow -> list
   | . -> list
 Gap = none|. -> word .
-SCell = Gap -> 1
-  | NUM -> 1
+SCell = Gap|NUM
 SCommas = SCell -> list
   | SCommas , SCell -> add
 SBlanks = SCell -> list
   | SBlanks ␣SCell -> add
-SkewRow = [ SCommas ] -> 2
-  | ( SCommas ) -> 2
-  | ( SBlanks ) -> 2
+SkewRow = [ SCommas ]
+  | ( SCommas|SBlanks )
   | [ ] -> list
 SkewRows = SkewRow -> list
   | SkewRows ,? SkewRow -> add
 SSlashes = SBlanks / SBlanks -> list
   | SSlashes / SBlanks -> add
-SkewTableau "a skew tableau" = [ SkewRows ] -> 2  # [[None,1],[1,2]], Sage
-  | skewtableau ( [ SkewRows ] ) -> 4
+SkewTableau "a skew tableau" = [ SkewRows ]  # [[None,1],[1,2]], Sage
+  | skewtableau ( [ SkewRows ] )
   | SSlashes -> typedWith run
-  | with rows SkewRows -> 3
+  | with rows SkewRows
 RectName = rectification|rectify|rect|jdt of|on|:? -> ""
   | jeu de taquin rectification? of|on|:? -> ""
 Question = RectName skew? tableau? SkewTableau -> rectOfSkew
   | RectName ( SkewTableau ) -> rectOfSkew
   | SkewTableau . rectify ( ) -> rectOfSkew
   | rectification of Tableau of|, shape? Skew -> shaped rect - 6 3
-  | word with PAndQ -> 3
-  | which? permutation|word has|with PAndQ under? rsk? -> 4
+  | word with PAndQ
+  | which? permutation|word has|with PAndQ under? rsk?
   | rsk ~^ ~{ - NUM } PAndQ -> 7
-  | rsk_inverse PAndQ -> 2  # Sage
-  | inverse rsk of|for? PAndQ -> 4
-  | rsk inverse of|for? PAndQ -> 4
+  | rsk_inverse PAndQ  # Sage
+  | inverse rsk of|for? PAndQ
+  | rsk inverse of|for? PAndQ
 PAndQ = ( Tableau , Tableau ) -> unrsk
   | Tableau and|, Tableau -> unrsk
   | P = Tableau ,? and? Q = Tableau -> unrsk
 Command = unrsk Tableau -? Tableau -> unrsk
-  | unrsk PAndQ -> 2
+  | unrsk PAndQ
   | rect Shape -|: Tableau -> shaped rect -
   | rect ( Lams , Tableau ) -> shaped rect -
   | tab|lrtab Shape -> shaped tab ""
@@ -1219,8 +1186,7 @@ Question = all? LrTableaux OfShape? Skew -> shaped tab ""
   | Count LrTableaux OfShape? Skew OfContent Arg -> tabContent
 Command = expand Opt? Basis ␣Sum Opt? -> expandWith  # (expand s2 has no basis)
   | expand ( Opt? Basis , Sum ) -> expandWith
-  | plethysm Basis ␣Operands -> plethysm
-  | plethysm Basis ␣Plethysm -> plethysm
+  | plethysm Basis ␣Operands|Plethysm -> plethysm
   | plethysm ( Basis , Arguments ) -> plethysm
   | plethysm ( Arguments ) -> ! plethysm s
   | plethysm Operands -> ! plethysm s
@@ -1229,8 +1195,7 @@ Operands = Sum ␣Sum -> composed
 Arguments = Sum , Sum -> composed
   | OfLam , OfLam -> composed
 Question = Square -> ? bareList  # which operation?
-  | Round -> ? bareList
-  | Blanks -> ? bareList
+  | Round|Blanks -> ? bareList
   | totals of NUM generated commands|command , from seed NUM -> reading work
   | answers to lines of input , of which there are none here -> reading batch
 LrCalc = lrcalc Command -> lrcalc  # lrcalc mult -r2 2 1 - 2 1
@@ -1250,22 +1215,21 @@ Conjugate = conjugate|transpose of? Arg -> conjugate
   | partition ( Square ) . conjugate ( ) -> conjugate
   | List ~Prime -> conjugate
 
-Line = LrCalc -> 1
-  | Command -> 1
-  | Asked -> 1
+Line = LrCalc|Command|Asked
   | Line , on one line -> onOneLine
-Asked = Question -> 1
-  | Ask Asked -> 2
+RuleOf = pieri|monk|newton rule|formula|identity|identities? of|for|:? -> ""
+  | LrName product|rule|expansion|decomposition of|for|:? -> ""
+  | decomposition of -> ""
+  | Monk -> ""
+Asked = Question
+  | Ask Asked
+  | RuleOf Asked -> ofRule
   | murnaghan -? nakayama? rule? for|of? Asked -> ? 6  # of characters, and of p_r s_λ
   | dual pieri rule|formula? of|for|:? Asked -> ? 5  # of e_r s_λ, and of skew functions
 Ask = compute|calculate|evaluate|find|determine|decompose|draw|show|list|give|apply|do|class -> ""
-  | decomposition of -> ""
   | what is|are? -> ""
-  | pieri rule|formula? of|for|:? -> ""
-  | LrName product|rule|expansion|decomposition of|for|:? -> ""
   | LrName ~: -> ""
   | murnaghan -? nakayama? rule? : -> ""
-  | newton identity|identities? for? :? -> ""
   | how do|can I|we -> ""
   | product ~: -> ""
 `;

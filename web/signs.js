@@ -23,7 +23,7 @@ function signsOf(text, { words, same }) {
   };
   const putWord = (word, at) => {
     const end = at + word.length, small = word.toLowerCase(), isApart = text[at - 1] === " " && text[end] === " ";
-    if (word === "x" && isApart) return put("·", at, end);
+    if (word === "x" && (isApart || /[)\]}]x[([{]/.test(text.slice(at - 1, end + 1)))) return put("·", at, end);
     if (word === "a" && isApart && /^ (?:[A-Za-z]{2}|\d)/.test(text.slice(end, end + 3))) return;
     if (words.has(word) || word.length === 1) return put(word, at, end);
     if (same.has(word) || same.has(small)) return put(same.get(word) ?? same.get(small), at, end);

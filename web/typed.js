@@ -79,10 +79,10 @@ function readTyped(typed) {
   if (isHidden) return unread(asTyped, [], sentence("hidden"), offered(hiddenReadings(asTyped, line)));
   const { sure, repairs, isCut, why, stop } = readingsOf(line);
   // (a formula as the page writes it runs, though it is 0 by its sizes)
-  const isWritten = (it) => [typedOf(it), computedBy(it.line, it.asked), plainFormula(computedBy(it.line, it.asked))].includes(line);
+  const isWritten = (it, shown = computedBy(it.line, it.asked)) => [typedOf(it), shown, plainFormula(shown)].includes(line), areSeveral = (all) => new Set(all.map(keyOf)).size > 1;
   const isSure = (it) => !it.isDoubtful && (!it.zero || isWritten(it));
-  const own = sure.filter(isWritten), meant = own.length > 0 ? own : sure;
-  if (new Set(meant.map(keyOf)).size === 1 && !isCut && meant.every(isSure)) return { line: meant[0].line, changes, asked: meant[0].asked };
+  const own = areSeveral(sure) ? sure.filter((it) => isWritten(it)) : [], meant = own.length > 0 ? own : sure;
+  if (meant.length > 0 && !areSeveral(meant) && !isCut && meant.every(isSure)) return { line: meant[0].line, changes, asked: meant[0].asked };
   if (sure.length > 0) return severalRead(line, changes, offered([...sure, ...(sure.every((it) => it.zero) ? repairs : [])]), isCut);
   if (isCut) return unread(line, changes, why || sentence("beyond"));
   return notRead(line, changes, { offers: offered(repairs.length > 0 ? repairs : withOtherName(line)), stop });
