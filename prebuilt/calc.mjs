@@ -133,7 +133,7 @@ function moduleBeside() {
   const [packed] = /H4sI[A-Za-z0-9+/]+=*/.exec(page) || [""];
   try {
     const bytes = zlib.gunzipSync(Buffer.from(packed, "base64"));
-    if (crypto.createHash("sha256").update(bytes).digest("hex") === "ec8869b5421f096fe2652c3048bc25840e2193c52caeb311816e946e28285c45") return bytes;
+    if (crypto.createHash("sha256").update(bytes).digest("hex") === "0666de690f413cea69099ebec8e535d4c0fce1e6cd5d80479a90f46f565029ad") return bytes;
   } catch {
     // (no module, as another one, is not that of this file)
   }
