@@ -7,3 +7,4 @@ pub mod FreeRows
 pub mod SweptLetters
 pub mod SweptRows
 pub mod SweptRowsFromOne
+pub mod ShortLetters

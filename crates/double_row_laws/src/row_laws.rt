@@ -7,7 +7,9 @@ ghost use Rattle.sym_model.specs.Partition.{Falls, after};
 ghost use Rattle.sym_model.specs.PlaceOrders.{sign};
 ghost use Rattle.sym_model.specs.Polynomial.{Poly, Same, In, nothing, scale, times};
 ghost use Rattle.sym_model.specs.Permutation.{IsOneLine, AreInverse, first_ascent, code};
+ghost use Rattle.sym_model.specs.Permutation.{with_fixed};
 ghost use Rattle.sym_model.specs.DoubleSchubert.{double_schubert_in};
+ghost use Rattle.schubert_laws.specs.ShortPermutations.{IsShort};
 ghost use Rattle.double_schubert_laws.specs.DiagramRows.{AreWithin, HasLeftAscent, LeadsTo};
 ghost use Rattle.double_row_laws.specs.DoubleRows.{times_double_rows, one_double_row};
 ghost use Rattle.double_row_laws.specs.SweptRows.{swept};
@@ -28,7 +30,9 @@ ghost use Rattle.double_row_laws.specs.SweptRows.{swept};
 /// letter a at one of the first c places, c being the number of cells of the row, gives y_r - y_a
 /// plus sums over covers of q, and any other letter gives 1 minus the sum over the covers of w that
 /// exchange it with one of those. This is the double Pieri formula for the product of all T - x_j
-/// with j ≤ c, T standing for x_i. Fixed letters are added at the end of w, more than c.
+/// with j ≤ c, T standing for x_i. Fixed letters are added at the end of w, more than c. The same for w
+/// and q that are written without fixed letters at the end, which are equal to their places, is
+/// `short_letters`.
 ///
 /// Let μ be a permutation whose code falls. If exchanges at common descents lead from μ and n, .., 1
 /// to the inverse of v and to a permutation p (`diagram_rows_law`), then at p, for all rows of the
@@ -62,6 +66,12 @@ pub fn double_rows_law()
         (swept (length w + 1) (get_or rows i 0) k (length q - i)
         (λ v p. times_double_rows k (double_schubert_in v k) (take i rows) p)
         (w ++ after (length w) j) q) }
+    ensures short_letters { (k i j m n : ℕ) (rows w q : List ℕ) → IsShort m w → IsShort n q
+        → AreWithin n rows → i < n → get_or rows i 0 ≤ m → m + get_or rows i 0 < j
+        → Same (times_double_rows k (double_schubert_in w k) (take (i + 1) rows) (with_fixed n q))
+        (swept (m + 1) (get_or rows i 0) k (n - i)
+        (λ v p. times_double_rows k (double_schubert_in v k) (take i rows) p)
+        (with_fixed j w) (with_fixed n q)) }
     ensures end { (k : ℕ) (s : Poly) (μ p v w : List ℕ) → Once μ → Falls (code μ) → IsOneLine v
         → IsOneLine w → AreInverse v w → length w ≡ length μ → length p ≡ length μ → LeadsTo μ p w
         → Same (times_double_rows k s (code μ) p)
