@@ -113,7 +113,7 @@ free_letter n i (suc c) g j h f = record {
 free_same : (n i : ℕ) (f g : Poly) → ((φ : List ℕ → ℤ) → pair f φ ≡ pair g φ) → IsFree n i g → IsFree n i f
 free_same n i f g e a = record { none = λ k l m φ. e (along k φ) ∙ a.none k l m φ }
 
-free_x : (n i : ℕ) (g : Poly) → In (n + n) g → i < n → IsFree n (suc i) g → IsFree n (suc i) (times (beside (variable_in (suc i) n) (one n)) g)
+pub free_x : (n i : ℕ) (g : Poly) → In (n + n) g → i < n → IsFree n (suc i) g → IsFree n (suc i) (times (beside (variable_in (suc i) n) (one n)) g)
 free_x n i g j h f = record {
   none = λ k l m φ.
       x_factor n i g (along k φ) j h

@@ -1,12 +1,12 @@
 -- A row of a diagram letter by letter of the greater permutation w, as `double_rows_law` states it (`row_by_letters`): w is followed by more fixed letters
 -- than the row has cells.
-use Rattle.std.proofs.Common.{◌≡◌, ℕ, zero, suc, ◌+◌, ◌-◌, ◌<◌, ◌≤◌, List, [], ◌∷◌, ◌++◌, length, get_or, take, drop, flat_map, refl, sym, ◌∙◌, ap, ap₂, arith, cond, nat_lt, Bool, true, false, ℤ, pos, ◌+ℤ◌, length-append}
+use Rattle.std.proofs.Common.{◌≡◌, ℕ, zero, suc, ◌+◌, ◌-◌, ◌<◌, ◌≤◌, List, [], ◌∷◌, ◌++◌, length, get_or, take, drop, flat_map, refl, sym, ◌∙◌, ap, ap₂, subst, arith, cond, nat_lt, Bool, true, false, ℤ, pos, ◌+ℤ◌, ◌-ℤ◌, length-append}
 use Rattle.std.proofs.lemmas.Int.{ints}
 use Rattle.std.proofs.Math.ListN.{get_or-append}
 use Rattle.std.proofs.lemmas.List.{replicate-append-replicate}
 use Rattle.sym_model.specs.Partition.{after}
 use Rattle.sym_model.specs.PlaceOrders.{places}
-use Rattle.sym_model.specs.Polynomial.{Term, Poly, Same, In, one, plus, negate, times, pair, resize}
+use Rattle.sym_model.specs.Polynomial.{Term, Poly, Same, In, nothing, one, plus, negate, times, pair, resize}
 use Rattle.sym_model.specs.Expansion.{beside}
 use Rattle.sym_model.specs.Permutation.{IsOneLine}
 use Rattle.sym_model.specs.DividedDifference.{variable_in, raised}
@@ -23,11 +23,13 @@ use Rattle.schubert_laws.proofs.DifferenceLaws.{variable_after, pair_variable_ti
 use Rattle.schubert_laws.proofs.Exchanges.{raise}
 use Rattle.schubert_laws.proofs.FixedTails.{one_line_added}
 use Rattle.schubert_laws.proofs.Pieri.{through_factor, after_factor}
-use Rattle.double_schubert_laws.specs.DiagramRows.{AreWithin}
+use Rattle.schubert_laws.proofs.ChainSums.{lift, lift_ext}
+use Rattle.schubert_laws.proofs.Swaps.{swap_at}
+use Rattle.double_schubert_laws.specs.DiagramRows.{AreWithin, HasLeftAscent}
 use Rattle.double_schubert_laws.proofs.InverseSteps.{turned}
-use Rattle.double_schubert_laws.proofs.Rows.{below, In_below, over_same, IsState, moved_ext, place_in_state}
+use Rattle.double_schubert_laws.proofs.Rows.{below, In_below, over_same, IsState, IsFree, free_below, free_more, moved_ext, place_in_state}
 use Rattle.double_pieri_laws.specs.DoubleChains.{elementary_of, first_x, these_y}
-use Rattle.double_pieri_laws.proofs.DoubleChainSums.{double_sum}
+use Rattle.double_pieri_laws.proofs.DoubleChainSums.{double_sum, lift_sum}
 use Rattle.double_pieri_laws.proofs.DoublePieri.{shown, y_shown, exchanged_factors, pieri_at_y}
 use Rattle.double_pieri_laws.proofs.DoublePieriLaw.{no_power_y, plain_product, fewer_letters}
 use Rattle.double_pieri_laws.proofs.UnmovedLetters.{split_sum, split_ext}
@@ -35,9 +37,9 @@ use Rattle.double_row_laws.specs.DoubleRows.{times_double_rows, over_place_of}
 use Rattle.double_row_laws.specs.SweptRows.{swept}
 use Rattle.double_row_laws.proofs.ExpandedRows.{valued, moved_y, moved_y_ext, In_over, x_moves, In_y, In_elementary_y, with_y, expanded_y, row_expanded_y}
 use Rattle.double_row_laws.proofs.RestrictedMirrors.{turned_over, elementary_turned_over}
-use Rattle.double_row_laws.proofs.DoubleRowsFromOne.{tested, pair_tested, moved_factor, raised_test, x_factor, In_x, pair_times_rows_y}
-use Rattle.double_row_laws.proofs.FreeRows.{flipped, gathered, In_gathered, gathered_value, letters_within}
-use Rattle.double_row_laws.proofs.SweptLetters.{small_all, power_term, swept_expanded}
+use Rattle.double_row_laws.proofs.DoubleRowsFromOne.{tested, pair_tested, moved_factor, no_value_y, raised_test, x_factor, In_x, pair_times_rows_y}
+use Rattle.double_row_laws.proofs.FreeRows.{flipped, free_x, gathered, In_gathered, gathered_value, letters_within}
+use Rattle.double_row_laws.proofs.SweptLetters.{small_all, power_term, swept_expanded, swept_sum}
 use Rattle.double_row_laws.proofs.SweptRows.{IsShifted, AreShown, y_to, pair_swept}
 
 -- ---- powers of x_i as factors
@@ -256,3 +258,43 @@ row_by_letters k i j rows w q o a r h l m =
     ∙ sym (swept_expanded (length w + 1) c (labelled (length q) k i g f q) 0 [] W ow (omega arith) (omega arith))
     ∙ sym (pair_swept (length w + 1) (length q) i c k F (labelled (length q) k i g f) f [] W q (labelled_rows (length q) k rows i f r (omega arith)) (labelled_shifts (length q) k i g f b h) s h ow (omega arith))
     ∙ no_power_in k (swept (length w + 1) c k (length q - i) F W q) f (In_swept (length w + 1) c k (length q - i) F W q (λ v p. In_product_rows k (take i rows) v p)))
+
+-- ---- within the row: no value at lists with a left ascent
+
+free_powered : (e n i : ℕ) (h : Poly) → In (n + n) h → i < n → IsFree n (suc i) h → IsFree n (suc i) (powered e n i h)
+free_powered zero n i h j l f = f
+free_powered (suc e) n i h j l f = free_powered e n i (x_of n i h) (In_x_of n i h j) l (free_x n i h j l f)
+
+none_swept : (m c : ℕ) (φ : ℕ → List ℕ → List ℕ → ℤ) (E : ℕ) (β w : List ℕ) → ((e : ℕ) (γ v : List ℕ) → φ e γ v ≡ pos 0) → swept_sum m c φ E β w ≡ pos 0
+none_swept zero c φ E β w z = z E β w
+none_swept (suc m) c φ E β w z = by (nat_lt (letters_before (suc m) w) c) (λ e γ v. none_swept m c φ e γ v z)
+  where
+    by : (t : Bool) → ((e : ℕ) (γ v : List ℕ) → swept_sum m c φ e γ v ≡ pos 0)
+        → cond t (swept_sum m c φ (suc E) β w -ℤ swept_sum m c φ E (raised (suc m) β) w)
+        (swept_sum m c φ E β w -ℤ lift (λ v. swept_sum m c φ E β v) w c (letters_before (suc m) w)) ≡ pos 0
+    by true rec =
+        let a = rec (suc E) β w in
+        let b = rec E (raised (suc m) β) w in
+        omega (arith, ints)
+    by false rec =
+        let a = rec E β w in
+        let b = lift_ext (λ v. swept_sum m c φ E β v) (λ v. pos 0) w c (letters_before (suc m) w) (λ a i j. rec E β (swap_at a (letters_before (suc m) w) w)) in
+        let d = lift_sum (λ v. pos 0) (λ v. pos 0) w c (letters_before (suc m) w) in
+        omega (arith, ints)
+
+pub within_letters : (m c k i : ℕ) (rows w q : List ℕ) → IsOneLine w → IsOneLine q → AreWithin (length q) rows → i < length q → m ≤ length w → HasLeftAscent (length q - (i + 1)) q
+    → Same (swept m c k (length q - i) (λ v p. times_double_rows k (double_schubert_in v k) (take i rows) p) w q) nothing
+within_letters m c k i rows w q o a r h l t =
+    let z : i + 1 ≡ suc i = omega arith in
+    let s : IsState (length q) q = record { one_line = a; size = refl } in
+    let g : Poly = below (length q) rows i in
+    let b = In_below (length q) rows i r (omega arith) in
+    let F : List ℕ → List ℕ → Poly = λ v p. times_double_rows k (double_schubert_in v k) (take i rows) p in
+    let free = free_more (length q) i g (free_below (length q) rows i r (omega arith)) in
+    same_from_pair (swept m c k (length q - i) F w q) nothing (λ f.
+    sym (no_power_in k (swept m c k (length q - i) F w q) f (In_swept m c k (length q - i) F w q (λ v p. In_product_rows k (take i rows) v p)))
+    ∙ pair_swept m (length q) i c k F (labelled (length q) k i g f) f [] w q (labelled_rows (length q) k rows i f r (omega arith)) (labelled_shifts (length q) k i g f b h) s h o l
+    ∙ none_swept m c (labelled (length q) k i g f q) 0 [] w (λ e γ v.
+    labelled_value (length q) k i g f q e γ v
+    ∙ no_value_y (length q) (suc i) (powered e (length q) i g) (tested (length q) k (shifted_in (v, γ) k) f) q (omega arith)
+    (free_powered e (length q) i g b h free) s (subst (λ m. HasLeftAscent (length q - m) q) z t)))

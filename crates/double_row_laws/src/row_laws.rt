@@ -32,7 +32,8 @@ ghost use Rattle.double_row_laws.specs.SweptRows.{swept};
 /// exchange it with one of those. This is the double Pieri formula for the product of all T - x_j
 /// with j ≤ c, T standing for x_i. Fixed letters are added at the end of w, more than c. The same for w
 /// and q that are written without fixed letters at the end, which are equal to their places, is
-/// `short_letters`.
+/// `short_letters`. Within a row, too, the value is 0 if some letters a and a + 1 stand in q in this
+/// order, both at most n minus the number of rows (`none_within_letters`).
 ///
 /// Let μ be a permutation whose code falls. If exchanges at common descents lead from μ and n, .., 1
 /// to the inverse of v and to a permutation p (`diagram_rows_law`), then at p, for all rows of the
@@ -72,6 +73,11 @@ pub fn double_rows_law()
         (swept (m + 1) (get_or rows i 0) k (n - i)
         (λ v p. times_double_rows k (double_schubert_in v k) (take i rows) p)
         (with_fixed j w) (with_fixed n q)) }
+    ensures none_within_letters { (m c k i : ℕ) (rows w q : List ℕ) → IsOneLine w → IsOneLine q
+        → AreWithin (length q) rows → i < length q → m ≤ length w
+        → HasLeftAscent (length q - (i + 1)) q
+        → Same (swept m c k (length q - i)
+        (λ v p. times_double_rows k (double_schubert_in v k) (take i rows) p) w q) nothing }
     ensures end { (k : ℕ) (s : Poly) (μ p v w : List ℕ) → Once μ → Falls (code μ) → IsOneLine v
         → IsOneLine w → AreInverse v w → length w ≡ length μ → length p ≡ length μ → LeadsTo μ p w
         → Same (times_double_rows k s (code μ) p)
