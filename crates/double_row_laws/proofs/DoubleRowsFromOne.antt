@@ -35,12 +35,13 @@ use Rattle.double_schubert_laws.proofs.BothRestrictions.{both, join_append, pair
 use Rattle.double_schubert_laws.proofs.DoubleDominant.{unit, pair_variable_in, pair_cells, dominant_product}
 use Rattle.double_schubert_laws.proofs.InverseSteps.{turned}
 use Rattle.double_schubert_laws.proofs.Inverses.{turned_is, from_one}
+use Rattle.double_schubert_laws.proofs.RowSteps.{In_over}
 use Rattle.double_schubert_laws.proofs.Rows.{below, In_below, below_diagram, over_same, IsState, moved_ext, place_in_state, IsFree, free_below}
 use Rattle.double_schubert_laws.proofs.RowsFromOne.{covers_at}
 use Rattle.double_pieri_laws.specs.DoubleChains.{elementary_of, first_x, these_y}
 use Rattle.double_pieri_laws.proofs.DoublePieri.{exchanged_factors}
 use Rattle.double_row_laws.specs.DoubleRows.{times_double_rows, over_place_of, one_double_row}
-use Rattle.double_row_laws.proofs.ExpandedRows.{valued, In_over, expanded_y, expanded_y_agree, Agree, with_y, In_with_y, In_elementary_y, join_unit, row_expanded_y}
+use Rattle.double_row_laws.proofs.ExpandedRows.{valued, expanded_y, expanded_y_agree, Agree, with_y, In_with_y, In_elementary_y, join_unit, row_expanded_y}
 use Rattle.double_row_laws.proofs.MirroredDoubles.{mirrored}
 use Rattle.double_row_laws.proofs.Mirrors.{mirror, raise_front}
 use Rattle.double_row_laws.proofs.RestrictedMirrors.{turned_over, pair_turned_over, turned_over-times, x_turned_over, one_turned_over, elementary_turned_over}

@@ -6,7 +6,6 @@ use Rattle.std.proofs.lemmas.Int.{ints}
 use Rattle.std.proofs.lemmas.List.{map-append, take-append-drop, length-replicate}
 use Rattle.sym_model.specs.Partition.{after}
 use Rattle.sym_model.specs.PlaceOrders.{places}
-use Rattle.sym_model.specs.BetaList.{rising_pairs}
 use Rattle.sym_model.specs.Polynomial.{Poly, In, one, plus, negate, times, pair, join}
 use Rattle.sym_model.specs.Expansion.{beside}
 use Rattle.sym_model.specs.DividedDifference.{variable, variable_in}
@@ -21,12 +20,12 @@ use Rattle.schubert_laws.proofs.CoverTests.{letter_is}
 use Rattle.schubert_laws.proofs.DifferenceLaws.{variable_after}
 use Rattle.schubert_laws.proofs.DualMonk.{dual_monk}
 use Rattle.schubert_laws.proofs.Exchanges.{raise, length-raise}
-use Rattle.schubert_laws.proofs.FixedLetters.{In_descended}
 use Rattle.schubert_laws.proofs.Pieri.{through_factor, after_factor}
 use Rattle.double_schubert_laws.proofs.BothRestrictions.{join_append}
 use Rattle.double_schubert_laws.proofs.DiagramProducts.{raise_raise}
 use Rattle.double_schubert_laws.proofs.DoubleDominant.{unit, pair_variable_in}
 use Rattle.double_schubert_laws.proofs.InverseSteps.{turned}
+use Rattle.double_schubert_laws.proofs.RowSteps.{In_over}
 use Rattle.double_schubert_laws.proofs.Rows.{row_times, In_row, over_combined, later_variable, IsState, moved_by, place_in_state, moved_ext, moved_minus}
 use Rattle.double_pieri_laws.specs.DoubleChains.{elementary_of, these_y}
 use Rattle.double_pieri_laws.proofs.DoublePieri.{covers_signed, elementary_last}
@@ -40,9 +39,6 @@ valued g φ q = pair (schubert_over g q) φ
 -- G(q) with the variable of the place of the letter n - i, plus Monk's sum for this place
 abbrev pub moved_y : ℕ → ℕ → ((List ℕ → ℤ) → List ℕ → ℤ) → (List ℕ → ℤ) → List ℕ → ℤ
 moved_y n i G φ q = G (λ α. φ (raise (letters_before (n - i) q) α)) q +ℤ moved_by n i (G φ) q
-
-pub In_over : (n : ℕ) (g : Poly) (q : List ℕ) → In (n + n) g → In (n + n) (schubert_over g q)
-In_over n g q i = In_descended g (n + n) (rising_pairs q) q i
 
 pub x_moves : (n i : ℕ) (g : Poly) (φ : List ℕ → ℤ) (q : List ℕ) → In (n + n) g → IsState n q → i < n
     → valued (times (variable_after i) g) φ q ≡ moved_y n i (valued g) φ q
@@ -207,6 +203,10 @@ one_letter_more n c g i h = record {
 
 -- ---- a row
 
+pub turned_none : (k : ℕ) → turned k (pos 0) ≡ pos 0
+turned_none zero = refl
+turned_none (suc k) = turned_none k
+
 pub row_expanded_y : (n i c : ℕ) (g : Poly) (φ : List ℕ → ℤ) (q : List ℕ) → In (n + n) g → IsState n q → i < n → c ≤ n
     → valued (row_times n i c g) φ q ≡ expanded_y c n i (with_y n c g) φ q
 row_expanded_y n i zero g φ q j s h l = sym (pair_determined (times (one (n + n)) (schubert_over g q)) (schubert_over g q) φ (one-times (n + n) (schubert_over g q) (In_over n g q j)))
@@ -219,9 +219,5 @@ row_expanded_y n i (suc c) g φ q j s h l =
     let m = expanded_y_more c n i (n + c) (with_y n c g) (with_y n (suc c) g) φ q (In_with_y n c g j) (one_letter_more n c g j (omega arith)) s h in
     let p = pair_times (elementary_of (n + n) (suc c) (these_y (places c) n)) (schubert_over g q) φ in
     let z = no_elementary n (suc c) (places c) (λ α. pair (schubert_over g q) (λ β. φ (join α β))) (omega (arith, length_after 0 c)) in
-    let t = ap (turned (suc c)) (p ∙ z) ∙ turned_zero (suc c) in
+    let t = ap (turned (suc c)) (p ∙ z) ∙ turned_none (suc c) in
     omega (arith, ints)
-  where
-    turned_zero : (k : ℕ) → turned k (pos 0) ≡ pos 0
-    turned_zero zero = refl
-    turned_zero (suc k) = turned_zero k

@@ -20,10 +20,11 @@ use Rattle.schubert_laws.proofs.Pieri.{after_factor, through_factor}
 use Rattle.double_schubert_laws.specs.DiagramRows.{AreWithin, HasLeftAscent}
 use Rattle.double_schubert_laws.proofs.DiagramProducts.{apart_before, apart_after, along_raised}
 use Rattle.double_schubert_laws.proofs.InverseSteps.{turned}
+use Rattle.double_schubert_laws.proofs.RowSteps.{In_over}
 use Rattle.double_schubert_laws.proofs.Rows.{below, In_below, over_combined, over_same, later_variable, IsState, IsFree, free_below, free_more}
 use Rattle.double_pieri_laws.specs.DoubleChains.{elementary_of, these_y}
 use Rattle.double_row_laws.specs.DoubleRows.{times_double_rows, one_double_row}
-use Rattle.double_row_laws.proofs.ExpandedRows.{valued, moved_y_ext, In_over, x_moves, y_factor, In_elementary_y, with_y, expanded_y}
+use Rattle.double_row_laws.proofs.ExpandedRows.{valued, moved_y_ext, x_moves, y_factor, In_elementary_y, with_y, expanded_y}
 use Rattle.double_row_laws.proofs.DoubleRowsFromOne.{tested, pair_one_row_y, pair_times_rows_y, no_value_y, In_x, x_factor}
 
 -- ---- sums and products with variables y, under divided differences

@@ -17,7 +17,7 @@ use Rattle.schubert_laws.proofs.Swaps.{swap_at, length-swap_at, among_get}
 use Rattle.double_schubert_laws.proofs.InverseSteps.{turned}
 use Rattle.double_pieri_laws.proofs.DoubleChainSums.{double_sum, lift_sum}
 use Rattle.double_pieri_laws.proofs.UnmovedLetters.{split_sum, split_ext, split_left, lift_at_covers, lift_split}
-use Rattle.double_row_laws.proofs.ExpandedRows.{turned_plus, turned_next}
+use Rattle.double_row_laws.proofs.ExpandedRows.{turned_none, turned_plus, turned_next}
 
 -- ---- the number of letters at most m among the first c
 
@@ -162,10 +162,6 @@ lift_turned (suc d) F w k b = lift_turned d (λ v. neg_ℤ (F v)) w k b ∙ ap (
         let c = lift_at_covers (λ v. neg_ℤ (F v) +ℤ F v) (λ v. pos 0) w k b (λ a i j t. omega (arith, ints)) in
         let z = lift_sum (λ v. pos 0) (λ v. pos 0) w k b in
         omega (arith, ints)
-
-turned_none : (k : ℕ) → turned k (pos 0) ≡ pos 0
-turned_none zero = refl
-turned_none (suc k) = turned_none k
 
 pub swept_expanded : (m c : ℕ) (φ : ℕ → List ℕ → List ℕ → ℤ) (E : ℕ) (β w : List ℕ) → IsOneLine w → m ≤ length w → c ≤ length w
     → swept_sum m c φ E β w ≡ split_sum (small c m w) (power_term m c φ E β w)

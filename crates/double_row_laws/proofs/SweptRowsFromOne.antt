@@ -27,6 +27,7 @@ use Rattle.schubert_laws.proofs.ChainSums.{lift, lift_ext}
 use Rattle.schubert_laws.proofs.Swaps.{swap_at}
 use Rattle.double_schubert_laws.specs.DiagramRows.{AreWithin, HasLeftAscent}
 use Rattle.double_schubert_laws.proofs.InverseSteps.{turned}
+use Rattle.double_schubert_laws.proofs.RowSteps.{In_over}
 use Rattle.double_schubert_laws.proofs.Rows.{below, In_below, over_same, IsState, IsFree, free_below, free_more, moved_ext, place_in_state}
 use Rattle.double_pieri_laws.specs.DoubleChains.{elementary_of, first_x, these_y}
 use Rattle.double_pieri_laws.proofs.DoubleChainSums.{double_sum, lift_sum}
@@ -35,7 +36,7 @@ use Rattle.double_pieri_laws.proofs.DoublePieriLaw.{no_power_y, plain_product, f
 use Rattle.double_pieri_laws.proofs.UnmovedLetters.{split_sum, split_ext}
 use Rattle.double_row_laws.specs.DoubleRows.{times_double_rows, over_place_of}
 use Rattle.double_row_laws.specs.SweptRows.{swept}
-use Rattle.double_row_laws.proofs.ExpandedRows.{valued, moved_y, moved_y_ext, In_over, x_moves, In_y, In_elementary_y, with_y, expanded_y, row_expanded_y}
+use Rattle.double_row_laws.proofs.ExpandedRows.{valued, moved_y, moved_y_ext, x_moves, In_y, In_elementary_y, with_y, expanded_y, row_expanded_y}
 use Rattle.double_row_laws.proofs.RestrictedMirrors.{turned_over, elementary_turned_over}
 use Rattle.double_row_laws.proofs.DoubleRowsFromOne.{tested, pair_tested, moved_factor, no_value_y, raised_test, x_factor, In_x, pair_times_rows_y}
 use Rattle.double_row_laws.proofs.FreeRows.{flipped, free_x, gathered, In_gathered, gathered_value, letters_within}
