@@ -1,7 +1,6 @@
 use Rattle.std.proofs.Common.{◌≡◌, List, ℕ, sym, ap, ap₂, ◌∙◌, subst}
 use Rattle.std.specs.Ordering.{nat_cmp, ordering_then}
 use Rattle.std.specs.Cmp.{tied_itself}
-use Rattle.std.specs.Cmp.Lexicographic.{slice_cmp}
 use Rattle.std.proofs.lemmas.Slice.Eq.{bytes_eq-Decides}
 use Rattle.sym_model.specs.PlaceOrders.{inversions}
 use Rattle.sym_model.specs.Permutation.{kept}
@@ -10,7 +9,7 @@ use Rattle.schubert_laws.proofs.FixedTails.{inversions_kept}
 use Rattle.linear_combinations.proofs.Labels.{permutation_order_is_total}
 use Rattle.linear_combinations.proofs.LabelTests.{is_permutation_label-limits}
 use Rattle.perm_codes.specs.Limits.{IsWithinLimits}
-use Rattle.perm_codes.proofs.LetterOrder.{permutation_order-slice_cmp, permutation_order-equal}
+use Rattle.perm_codes.proofs.LetterOrder.{permutation_order-equal}
 use Rattle.monk_product.specs.ShortPerms.{IsFilled}
 use Rattle.monk_product.proofs.ShortPerms.{limits_of}
 use Rattle.monk_product.proofs.StoredOrder.{stored_order}
