@@ -9,3 +9,4 @@ pub mod ShortCovers
 pub mod ChainLists
 pub mod ChainSteps
 pub mod ElementaryProducts
+pub mod StoredOrder

@@ -3,13 +3,13 @@
 //! → .. → v with a ≤ k < b in each cover, in which the greater letters of the exchanged pairs
 //! decrease strictly.
 ghost use Rattle.std.specs.Prelude.{◌≡◌, ℕ, ◌<◌, ◌≤◌, ◌-◌, ◌+ℤ◌, ◌*ℤ◌, ℤ, List, slice_index};
-ghost use Rattle.std.specs.Prelude.{OnOk, flat_map};
+ghost use Rattle.std.specs.Prelude.{IsFalse, OnOk, flat_map};
 ghost use Rattle.sym_model.specs.Permutation.{with_fixed};
 ghost use Rattle.sym_model.specs.Polynomial.{pair, times};
 ghost use Rattle.sym_model.specs.Schubert.{schubert_in};
 ghost use Rattle.schubert_laws.specs.Chains.{elementary_in};
 ghost use Rattle.schubert_laws.specs.ShortPermutations.{IsShort};
-ghost use Rattle.double_schubert_laws.specs.KeptChains.{kept_chains, kept_lifted};
+ghost use Rattle.double_schubert_laws.specs.KeptChains.{kept_chains, kept_lifted, less_among};
 ghost use Rattle.linear_combinations.specs.Gains.{each_with, over, Gains};
 
 use crate::short_monk::ShortSum;
@@ -71,11 +71,21 @@ fn add_chains(
     }
     for place in k..n {
         let letter = w.letter(place);
-        if letter <= most && d <= w.less_among(k, letter) {
+        if letter <= most && has_room(w, d, k, letter) {
             add_chains_at(w, place, d - 1, k, n, c, sum)?;
         }
     }
     Ok(())
+}
+
+/// Whether a chain of d covers can begin with a cover whose greater letter is `letter`: not if fewer
+/// than d letters less than it are at the first k places. For d = 1 the covers themselves are looked
+/// for at once.
+fn has_room(w: &ShortPerm, d: usize, k: usize, letter: u8) -> bool
+    requires { k ≤ 32 }
+    ensures { IsFalse result → less_among k letter (with_fixed 32 w.now) < d }
+{
+    d == 1 || d <= w.less_among(k, letter)
 }
 
 /// Adds `c` to the coefficient of the last permutation of each chain whose first cover exchanges the

@@ -180,13 +180,6 @@ impl ShortPerm {
             inversions: self.inversions + 1,
         }
     }
-
-    /// The letters of the permutation without the fixed letters at the end.
-    fn letters(&self) -> &[u8]
-        ensures { result.now ≡ self.now }
-    {
-        &self.letters[..self.len()]
-    }
 }
 
 impl PartialEq for ShortPerm {
@@ -233,7 +226,7 @@ impl Label for ShortPerm {
         }
         self.inversions
             .cmp(&other.inversions)
-            .then(self.letters().cmp(&other.letters()))
+            .then(self.letters.cmp(&other.letters))
     }
 
     fn copy(&self) -> Result<ShortPerm, NoMemory> {

@@ -9,7 +9,7 @@ use Rattle.monk_product.proofs.ChainSteps.{adds_place, skips_place, taken, too_g
 use Rattle.monk_product.proofs.ChainSteps.{all_places, is_cover, low_raised, low_kept, more_added}
 use Rattle.monk_product.proofs.ChainSteps.{none_added, all_covers, cover_short, letter_most}
 use Rattle.monk_product.proofs.chains.+chains.Goals as goal
-use Rattle.monk_product.proofs.chains.+chains.Goals.{add_chains-then-letter-most+then-d-less_among+in_ok-add_chains_at, add_chains-else-letter-most, add_chains-else-letter-most-via-then-letter-most+else-d-less_among, add_chains-else-letter-most-via-else-letter-most}
+use Rattle.monk_product.proofs.chains.+chains.Goals.{add_chains-then-letter-most+then-has_room+in_ok-add_chains_at, add_chains-else-letter-most, add_chains-else-letter-most-via-then-letter-most+else-has_room, add_chains-else-letter-most-via-else-letter-most}
 use Rattle.monk_product.proofs.chains.+chains.Goals.{add_chains_at-else-low-other-via-then-low-other+else-other-letter, add_chains_at-else-low-other-via-else-low-other}
 
 pub add_chains-returns-then-d-eq0 : goal.add_chains-returns-then-d-eq0
@@ -30,7 +30,7 @@ add_chains-loop-place-preserved t c =
     c.loop-place.place c.args.sum.now c.loop-place.sum (with_fixed c.args.n c.args.w.now)
     (omega arith) (omega arith) c.loop-place.invariant in
     elim c.if-letter-most.branch [
-      | add_chains-then-letter-most+then-d-less_among+in_ok-add_chains_at w ↦
+      | add_chains-then-letter-most+then-has_room+in_ok-add_chains_at w ↦
           subst (λ s. Gains c.args.sum.now
           (each_with c.args.c (flat_map (ends_to c.args.most (c.args.d - 1) c.args.k c.args.n
           c.args.w.now) (take (c.loop-place.place + 1 - c.args.k)
@@ -50,9 +50,8 @@ add_chains-loop-place-preserved t c =
           c.args.w.now) (take (c.loop-place.place + 1 - c.args.k)
           (drop c.args.k (with_fixed c.args.n c.args.w.now))))) s) (sym w.sum-is)
           (step (elim w.else-letter-most.branch [
-            | add_chains-else-letter-most-via-then-letter-most+else-d-less_among v ↦
-                let less = v.less_among.ensures in
-                let cut = v.if-d-less_among.false in
+            | add_chains-else-letter-most-via-then-letter-most+else-has_room v ↦
+                let cut = v.has_room.ensures v.if-has_room.false in
                 too_few c.args.n c.args.k c.loop-place.place (c.args.d - 1) c.args.most
                 c.letter-letter.result c.args.w.now c.requires.short c.requires.few
                 (omega arith) (omega arith) c.letter-letter.ensures (omega arith)

@@ -1,18 +1,18 @@
 use Rattle.std.proofs.Common.{◌≡◌, List, ℕ, sym, ap, ap₂, ◌∙◌, subst}
 use Rattle.std.specs.Ordering.{nat_cmp, ordering_then}
 use Rattle.std.specs.Cmp.{tied_itself}
-use Rattle.std.specs.Cmp.Lexicographic.{slice_cmp}
 use Rattle.std.proofs.lemmas.Slice.Eq.{bytes_eq-Decides}
 use Rattle.sym_model.specs.PlaceOrders.{inversions}
 use Rattle.sym_model.specs.Permutation.{kept}
-use Rattle.sym_model.specs.PrintedOrder.{permutation_order}
+use Rattle.sym_model.specs.PrintedOrder.{permutation_order, rising_letters}
 use Rattle.schubert_laws.proofs.FixedTails.{inversions_kept}
 use Rattle.linear_combinations.proofs.Labels.{permutation_order_is_total}
 use Rattle.linear_combinations.proofs.LabelTests.{is_permutation_label-limits}
 use Rattle.perm_codes.specs.Limits.{IsWithinLimits}
-use Rattle.perm_codes.proofs.LetterOrder.{permutation_order-slice_cmp, permutation_order-equal}
+use Rattle.perm_codes.proofs.LetterOrder.{permutation_order-equal}
 use Rattle.monk_product.specs.ShortPerms.{IsFilled}
 use Rattle.monk_product.proofs.ShortPerms.{limits_of}
+use Rattle.monk_product.proofs.StoredOrder.{stored_order}
 use Rattle.monk_product.proofs.short_perm.ShortPermLabel.cmp_printed.Goals as goal
 
 limits : (u w : List ℕ) (n : ℕ) → kept u ≡ w → IsFilled u n → IsWithinLimits w
@@ -49,11 +49,11 @@ value c =
     c.cmp.ensures
     ∙ ap₂ nat_cmp (count _ _ _ c.self.view_is c.self.invariant)
     (count _ _ _ c.other.view_is c.other.invariant) in
-    let lists : c.cmp-2.result ≡ slice_cmp nat_cmp this other =
-    c.cmp-2.ensures ∙ ap₂ (slice_cmp nat_cmp) c.letters.ensures c.letters-2.ensures in
+    let lists : c.cmp-2.result ≡ rising_letters 0 this other =
+    c.cmp-2.ensures
+    ∙ sym (stored_order _ _ (c.self.invariant.long ∙ sym c.other.invariant.long))
+    ∙ ap₂ (rising_letters 0) c.self.view_is c.other.view_is in
     c.then.ensures ∙ ap₂ ordering_then counts lists
-    ∙ permutation_order-slice_cmp this other (limits _ _ _ c.self.view_is c.self.invariant)
-    (limits _ _ _ c.other.view_is c.other.invariant)
 
 pub returns-clause-value : goal.returns-clause-value
 returns-clause-value c = value c
