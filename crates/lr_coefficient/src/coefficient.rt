@@ -13,6 +13,9 @@ use coeff_rings::Int;
 use partitions::Partition;
 use std::alloc::Global;
 
+/// The greatest number of cells that both factors may have together, for `lr_product::coef`.
+const MOST_CELLS: u16 = 4096;
+
 /// A coefficient that can be counted: that of `outer` in the product of `left` and `right`.
 #[derive(Debug, Drop)]
 struct Coefficient {
@@ -100,7 +103,7 @@ fn complements(
     let Some(right) = complement(alloc, k, right.part(1), right)? else {
         return Ok(None);
     };
-    if left.size() + right.size() > 4096 {
+    if left.size() + right.size() > MOST_CELLS {
         return Ok(None);
     }
     Ok(Some(Coefficient { outer, left, right }))
