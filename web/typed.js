@@ -49,10 +49,10 @@ function readingsOf(line) {
   return { sure, repairs: readings.filter((it) => it.isRepair && !keys.has(keyOf(it))), isCut: isMany || cutShort.is, why: cutShort.why, stop };
 }
 
-/** What can come at a place, as the page calls it. */
+/** What can come at a place, as the page calls it, in the order of the notations, where what binds more tightly stands first; a bracket that closes last. */
 function expectedAt(states) {
-  const nameOf = (name, sign, rule) => notation().labels.get(name) ?? SENTENCES["next sign"][sign] ?? (rule >= 0 || /^(?:[A-Za-z]{2}|[Ā-ɏ])/.test(sign) ? "" : sign);
-  return [...new Set(states.map((it) => nameOf(it.name, it.name.split("|")[0], it.rule)))].filter(Boolean).slice(0, 6);
+  const rank = ({ of, name }) => of.id + (/^[)\]}]$/.test(name) ? 9999 : 0), nameOf = (name, sign, rule) => notation().labels.get(name) ?? SENTENCES["next sign"][sign] ?? (rule >= 0 || /^(?:[A-Za-z]{2}|[Ā-ɏ])/.test(sign) ? "" : sign);
+  return [...new Set([...states].sort((a, b) => rank(a) - rank(b)).map((it) => nameOf(it.name, it.name.split("|")[0], it.rule)))].filter(Boolean).slice(0, 6);
 }
 
 /** Readings of a line with the name of its command put right. */
