@@ -65,7 +65,7 @@ function grammarOf(table, meanings) {
   for (const { name, items: all, meaning, isRepair, isDoubt } of alternatives) {
     const give = giver({ items: all, meaning }, isValued, meanings), id = ids.get(name);
     for (const items of choicesOf(all, ids)) {
-      const isSame = all.length === 1 && /^(?:1|value)$/.test(meaning[0]) && ids.has(items[0].name) && !isRepair && !isDoubt;
+      const isSame = all.length === 1 && /^(?:1|value)$/.test(meaning[0]) && ids.has(items[0].name) && items[0].gap === 0 && !isRepair && !isDoubt;
       const of = { id, name, items, give, digits: 0, isRepair, isDoubt, isSame, count: all.length };
       startsOf[id].push(states.length);
       items.forEach((item, at) => states.push({ of, at, place: item.place, name: item.name, gap: item.gap, rule: ids.get(item.name) ?? -1, first: firstOfItem(item.name) }));
