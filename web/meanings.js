@@ -52,8 +52,6 @@ function powerOf(it, [times, rest]) {
   return all && rest ? timesText(all, expression(rest)) : all;
 }
 
-/** An expression without the parentheses around all of it. */
-const bared = (it) => it.inside ?? it.text;
 /** Where no basis is said, each is a reading. */
 const inEachBasis = (...words) => eitherOf(...["s", "m", "p", "h", "e"].map((it) => reading(words[0], it, ...words.slice(1))));
 const hasFunction = (text) => /[mehps]/.test(text);
@@ -231,12 +229,13 @@ const MEANINGS = {
   // (in Sage s(2) inside another call is the number 2; s(3/2) is hardly meant as a number)
   sageExpand: (basis, it) => doubtful({ isDoubtful: it.isCalled || !hasFunction(it.text) }, reading("expand", basis, it.text)),
   expandWith: withOptions((options, basis, it) => (["", "-m"].includes(options) ? reading("expand", options, basis, it.text) : null)),
-  composed: (f, g) => [bared(f), bared(g)],
+  composed: (...both) => both.map((it) => it.inside ?? it.text),
   plethysmBare: (both) => (hasFunction(both[0]) ? inEachBasis("plethysm", ...both) : null),
   plethysm: (basis, both) => reading("plethysm", basis, ...both),
   inLetters: (it, count) => ({ list: it.atoms[0][1], count }),
   countOfOnes: (list) => (list.every((it) => it === "1") ? String(list.length) : null),
   inGl: (it, count) => reading("plethysm s", it.text, plainNumber(count)),
+  timesOnes: (it, count) => (count > 1 ? productOf([it.atoms[0][1], copies("1", count)]) : null),
   polynomial: (it, count, [[, list]] = it.atoms, w = ofCode(Array.from({ length: count }, (_, i) => list[count - 1 - i] || "0"))) => (w && list.length <= count ? reading("schubert", w) : null),
   multInLetters: (all) => (all.every((it) => it.count === all[0].count) ? productOf(all.map((it) => it.list), variables(all[0].count)) : null),
   littlewood: ([a], [b]) => (isPartition(a) && isPartition(b) ? eitherOf([atomText("s", b), atomText("s", a)], [atomText("s", a), atomText("s", b)]) : null),
@@ -291,6 +290,7 @@ const MEANINGS = {
   },
   doubleProduct: (lists) => eitherOf(MEANINGS.permuted("dschubmult", lists), lists.length === 2 && lists.every((it) => it.how === "xy" && it.length <= 3) && MEANINGS.permuted("schubmult", lists)),
   schubertProduct: (lists) => (lists.length <= 2 ? MEANINGS.permuted(lists.length === 1 ? "schubert" : "schubmult", lists) : areLetters(lists) ? tooMuch("Two Schubert polynomials are multiplied at a time here.") : null),
+  inFlags: (lists, n, made = (lists.every((it) => it.length <= n) && MEANINGS.schubertProduct(lists)) || null) => (lists.length === 2 ? asking(made, { kind: "Fl", n: plainNumber(n) }) : doubtful({ isDoubtful: true }, made)),
   schubertIn: (w, count) => (Number(count) >= w.length - 1 ? w : null),
   stanleyOf: (w, count) => eitherOf(stanleyIn(w, count), isPermutation(w) && stanleyIn(inverseOf(w), count)),
   nextLetter: (last, number) => (Number(number) === Number(last) + 1 ? number : null),

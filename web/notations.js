@@ -74,7 +74,7 @@ Minus "-" := -
 Sch ~= S 𝔖
 Prime ~= ' ′ ’
 To ~= in to into as
-Dot "a times sign" ~= * · ∗ ⊗ ∪ ∩
+Dot "a times sign" ~= * · ∗ ∪ ∩
 Ast "a times sign" ~= * · ∗
 Over ~= / ∖
 Greek ~= λ μ ν α β ρ
@@ -135,6 +135,7 @@ Index "an index" = ~_ ~{ Below }  # s_{2,1}
   | ~_ ~NUM ~, ~Tight -> ? join  # s_2,1 (a comma with two readings)
   | ~. ~Square  # s.[2,1], Magma
   | ~Square  # s[2,1]
+  | ␣Square -> ! 1  # s [2,1]: a blank too many
   | ~[ ~] -> list
   | ~∅ -> list
   | ~[ { Inside } ]  # s[{2,1}], Mathematica
@@ -167,9 +168,11 @@ Arg "a partition" = Lam  # in a phrase
   | schur functions Arg
   | Greek = Lam  # λ=(2,1)
 By = and|with|by -> ""
-Both "two partitions" = Arg By Arg -> list
+Twice = Arg By Arg -> list
   | Arg , and? Arg -> list
   | Arg Dot Arg -> list
+Both "two partitions" = Twice
+  | Arg ⊗ Arg -> ? list  # or the internal product
 
 # ---------------------------------------------------------------- symmetric functions
 Atom "a symmetric function" = Family Index -> atom
@@ -188,7 +191,7 @@ Power = Atom
   | Atom InX  # h_2[X]
   | Named Atom -> named
   | Paren|Det
-  | SM IndexPower -> atom  # s_1^3 (and no further exponent)
+  | SM IndexPower -> ? atom  # s_1^3 (and no further exponent)
   | Atom|Paren Exp -> powerOf
 Paren = ( Sum ) -> paren
 Det = det|determinant of? Matrix -> determinant  # of Jacobi and Trudi
@@ -307,7 +310,7 @@ Giambelli = giambelli formula|determinant|expansion|identity? of|for|:? -> ""
 RowsOfS = S Index -> rowsOfS  # with an increasing list: its rows from the last one on
 OfS_ = RowsOfS -> atom s
 SProduct = RowsOfS -> list
-  | SProduct Dot? RowsOfS -> add
+  | SProduct Dot|⊗? RowsOfS -> add
   | RowsOfS Exp -> listPower
 InVariables = in NUM variables|vars|variable
   | with|in at most NUM rows|parts
@@ -342,6 +345,7 @@ Question = Sum InVariables -> product
   | multiply SPair -> ? product
   | SVars -> multInLetters
   | SAtom ~( Ones ) -> inGl  # s_{2,1}(1,1,1): a number in a plethysm stands for so many variables that are 1
+  | SAtom ~( Ones ) -> timesOnes  # or the product with s_{1,1,1}
   | dimension of? Functor Cn -> inGl
   | dimension of? GlOf Irreducible? OfArg -> inGl 5 3
   | dimension of? Irreducible? OfArg ForGl -> inGl
@@ -459,8 +463,9 @@ Question = CoefOf Atom|OfMonomial in Term -> coefficientIn
   | how many|often ·? does Atom occur|appear in Term -> coefficientIn 5 8
   | CoefOf Atom in Plethysm -> coefficientInPlethysm
   | [ Atom ] Sum -> coefficientIn  # [s_λ] s_μ s_ν
-  | CoefOf Arg in Both -> coef
-  | CoefOf S|V Index in Tensor -> coefNot0  # (a Kronecker coefficient has other sizes)
+  | CoefOf Arg in Twice -> coef
+  | CoefOf Arg in Tensor -> coefNot0  # (a Kronecker coefficient has other sizes)
+  | CoefOf S|V Index in Tensor -> coefNot0
   | CoefOf S Above in Specht -> coefNot0
   | CoefOf S Above in ind ( Specht ) -> coef
   | mult|multiplicity of? weight Arg in V Index -> ? kostkaOf 7 4  # or by labels of Dynkin
@@ -611,14 +616,17 @@ SPolys = SPoly -> list
 DPolys = DPoly -> list
   | DPolys Dot? DPoly -> add
   | DPoly Exp -> listPower
-Flags = Fl ( NUM ) -> ""
-  | Fl ~_ ~NUM -> ""
-  | Fl ~_ ~{ NUM } -> ""
-InFlags = in? cohomology? of? Flags -> ""
-  | in? H Star ~( Flags ) -> ""
-  | in? H ~_ T ~^ ~Ast ~( Flags ) -> ""
+Flags = Fl ( NUM )
+  | Fl ~_ ~NUM
+  | Fl ~_ ~{ NUM }
+InFlags = in? cohomology? of? Flags
+  | in? H Star ~( Flags )
+InEquivariant = in? H ~_ T ~^ ~Ast ~( Flags ) -> ""
 FlagClass = σ Perm
   | [ X Perm ]
+FlagClasses = FlagClass Dot? FlagClass -> list
+  | FlagClass Exp -> listPower
+FlagPair = FlagClass By FlagClass -> list
 Monk = schubert structure constants|coefficients of|for|:? -> ""
   | schubert polynomials? product|multiplication of|for|:? -> ""
 OfW = w = -> ""
@@ -628,20 +636,22 @@ InSchubert = In schubert polynomials|basis|classes -> ""
 Question = SPolys -> schubertProduct
   | Convert? SPolys InSchubert -> schubertProduct 2
   | RuleOf WOther -> permuted schubmult
-  | InFlags :|, SPolys -> ? schubertProduct
-  | FlagClass Dot? FlagClass InFlags? -> ? permuted schubmult
+  | InFlags :|, SPolys -> inFlags 3 1
+  | FlagClasses -> ? permuted schubmult
+  | FlagClasses InFlags -> ? inFlags  # of u, or of w_0 u
   | Compact *|· Compact -> ? permuted schubmult
   | product|multiply of? Compact By Compact -> ? permuted schubmult
-  | product of? schubert classes FlagClass By FlagClass InFlags -> ? permuted schubmult
+  | product of? schubert classes FlagPair InFlags -> ? inFlags
   | multiply SPolys By SPoly -> permuted schubmult 2 4
   | multiply schubert polynomials of? for? WOther -> permuted schubmult
   | double schubert polynomials|product DPolys -> permuted dschubmult
   | product of? double schubert polynomials of? for? WOther -> permuted dschubmult
-  | equivariant product of? schubert? classes? WOther InFlags? -> ? permuted dschubmult 6
+  | equivariant product of? schubert? classes? WOther InEquivariant? -> ? permuted dschubmult 6
   | symmetrica . mult_schubert_schubert WOther -> permuted schubmult
   | OfS_ -> ? bare  # S_{321}: of Schubert, or of Schur
   | OfS_ ~( x ) -> ? bare
-  | SPolys InFlags -> ? schubertProduct
+  | SPolys InFlags -> inFlags
+  | SPolys InEquivariant -> ? permuted dschubmult
   | DPolys -> doubleProduct
   | product of? schubert? polynomials? SPolys By SPoly -> permuted schubmult 5 7
   | schubmult_py WOther -> permuted schubmult
