@@ -133,6 +133,7 @@ Index "an index" = ~_ ~{ Below }  # s_{2,1}
   | ~_ ~NUM -> digits  # s_21
   | ~_ ~Round|Square|Empty
   | ~_ ~NUM ~, ~Tight -> ? join  # s_2,1 (a comma with two readings)
+  | ~_ ~NUM ␣Blanks|Part -> ! join  # s_2 1
   | ~. ~Square  # s.[2,1], Magma
   | ~Square  # s[2,1]
   | ␣Square -> ! 1  # s [2,1]: a blank too many
@@ -142,10 +143,15 @@ Index "an index" = ~_ ~{ Below }  # s_{2,1}
   | ~( Inside ) -> called  # s(2,1)
   | ~( Square )  # s([2,1]), Sage
   | ~NUM -> digits  # s21
+Degree = ~^ ~NUM
+  | ~^ ~{ NUM }
+  | ~sup
+Lowered = ~_ ~NUM
+  | ~_ ~{ NUM }
 IndexPower = ~_ ~NUM ~^ ~NUM -> digitsPower  # s_1^3 as s_{1^3}
   | ~_ ~NUM ~^ ~{ NUM } -> digits
 Upper = ~^ ~{ Sub }
-  | ~^ ~Round|Square
+  | ~^ ~Round|Square|Empty
 Above = Upper
   | ~^ ~NUM -> digits
 Lower = ~_ ~{ Sub }
@@ -346,6 +352,7 @@ Question = Sum InVariables -> product
   | SVars -> multInLetters
   | SAtom ~( Ones ) -> inGl  # s_{2,1}(1,1,1): a number in a plethysm stands for so many variables that are 1
   | SAtom ~( Ones ) -> timesOnes  # or the product with s_{1,1,1}
+  | Value SAtom at ( Ones ) -> inGl 2 5
   | dimension of? Functor Cn -> inGl
   | dimension of? GlOf Irreducible? OfArg -> inGl 5 3
   | dimension of? Irreducible? OfArg ForGl -> inGl
@@ -412,12 +419,13 @@ Coproduct = Δ of Arg
 EqualsSum = = Σ s ~_ ~{ Greek / Greek } ⊗ s ~_ Greek -> ""
 ProductsOf = , in products s ~_ ~{ μ } ( x ) s ~_ ~{ ν } ( y ) -> ""
   | , in products s μ ( x ) s ν ( y ) -> ""
-Cell = Compact
+Cell = Compact -> typedWith digits
   | Greek = List
   | Round|Square
   | { Inside }
-  | ∅ -> list
-Spaced = Compact|Blanks
+  | Empty
+Spaced = Compact -> typedWith digits
+  | Blanks
 Cells = Cell , Cell -> list  # 21,21
   | Spaced , Spaced -> list  # 2^2,2 1^2
   | Cell ␣Cell -> list
@@ -430,9 +438,7 @@ Down2 = ~_ ~{ Pair }
 Monomial = XPower
   | Monomial *|·? XPower -> join
 XPower = XLetter -> part
-  | XLetter ~^ ~NUM -> part
-  | XLetter ~^ ~{ NUM } -> part
-  | XLetter ~sup -> part
+  | XLetter Degree -> part
 OfMonomial = Monomial -> monomial
 CoefName = LR coefficient|number -> ""
   | littlewood - richardson coefficient|number -> ""
@@ -468,8 +474,8 @@ Question = CoefOf Atom|OfMonomial in Term -> coefficientIn
   | CoefOf S|V Index in Tensor -> coefNot0
   | CoefOf S Above in Specht -> coefNot0
   | CoefOf S Above in ind ( Specht ) -> coef
-  | mult|multiplicity of? weight Arg in V Index -> ? kostkaOf 7 4  # or by labels of Dynkin
-  | weight multiplicity of? Arg in V Index -> kostkaOf 7 4
+  | mult|multiplicity of? weight Arg in V Index -> ? kostkaNot0 7 4  # or by labels of Dynkin
+  | weight multiplicity of? Arg in V Index -> kostkaNot0 7 4
   | weight multiplicities of? V OfIndex -> ? expand m
   | weight multiplicities of? V OfIndex ForGl -> ! expand m 5
 Kostka = K|kostka ~( Pair ) -> kostka
@@ -545,7 +551,7 @@ OfSize = Arg OfS -> ofSize 2 1
 Character = irreducible? character of? -> ""
   | value of character of? -> ""
   | character value of? -> ""
-  | value of -> ""
+Value = value of -> ""
 Module_ = Arg
   | Irreducible Labelled? Arg
   | for Arg
@@ -555,22 +561,24 @@ Cycle = NUM - cycle
   | transposition -> word "2"
   | identity -> word "1"
 AboveOfS = Above OfS -> ofSize 2 1
-Number_ = ~_|^ ~NUM -> list
-  | ~_|^ ~{ NUM } -> list
+OfLower = Lower -> atom s
+Number_ = Lowered|Degree -> list
 Question = χ Above ~( Inside ) -> characterOf  # χ^{31}(22)
   | χ Above ~( Round ) -> characterOf
   | χ Above Lower -> characterOf
   | χ Lower Above -> characterOf 3 2  # which one is the irreducible?
   | χ Lower Above -> characterOf
   | χ Lower ~( Inside|Round ) -> characterOf
+  | χ OfLower ~( Ones ) -> inGl  # of GL_n
   | χ ~( Inner ; Inner ) -> characterOf
   | χ Above -> ? characterOnly
   | χ ( Lam , Lam ) -> characterOf  # Maple
   | χ Square Square -> characterOf
   | χ Round Round -> characterOf
   | Symmetrica? charvalue ( Lam , Lam ) -> characterOf
-  | Character? χ Above|AboveOfS AtClass Arg -> characterOf 3 5
-  | Character? χ Above AtClass Cycle -> characterAtCycle 3 5
+  | Character|Value? χ Above|AboveOfS AtClass Arg -> characterOf 3 5
+  | Character|Value? χ Above AtClass Cycle -> characterAtCycle 3 5
+  | value of Lam AtClass Arg -> ? characterOf
   | Character Module_ AtClass Arg -> characterOf
   | Character Module_ AtClass Cycle -> characterAtCycle
   | Character Module_ -> ? characterOnly
@@ -617,8 +625,7 @@ DPolys = DPoly -> list
   | DPolys Dot? DPoly -> add
   | DPoly Exp -> listPower
 Flags = Fl ( NUM )
-  | Fl ~_ ~NUM
-  | Fl ~_ ~{ NUM }
+  | Fl Lowered
 InFlags = in? cohomology? of? Flags
   | in? H Star ~( Flags )
 InEquivariant = in? H ~_ T ~^ ~Ast ~( Flags ) -> ""
@@ -683,16 +690,17 @@ XLetter = x ~_ ~NUM
 Stanley = stanley symmetric? functions? -> ""
   | stable schubert polynomials -> ""
 # ---------------------------------------------------------------- the Grassmannian
+CPower = C Degree
 GrOf "Gr(k,n)" = Gr ~_ ~{ NUM , NUM } -> grassmannian
   | Gr ( NUM , NUM ) -> grOrLines  # Gr(1,3): a plane, or the lines of P^3
-  | Gr|G ( NUM , C ~^ ~NUM ) -> grassmannian  # Gr(2,C^5)
-  | Gr|G ( NUM , C ~^ ~{ NUM } ) -> grassmannian
+  | Gr|G ( NUM , CPower ) -> grassmannian  # Gr(2,C^5)
+  | Gr|G ~_ ~NUM ( CPower ) -> grassmannian
+  | Gr ~_ ~NUM ( NUM ) -> grassmannian
   | grassmannian Gr? ( NUM , NUM ) -> grOrLines
   | 𝔾 ( NUM , NUM ) -> subspaces  # of projective subspaces, or as Gr
   | grassmannian? G|𝔾 ( NUM , NUM ) -> grassmannian
   | grassmannian? G ( NUM , NUM ) -> subspaces
-  | P ~^ ~NUM -> boxOf "1"  # P^2
-  | P ~^ ~{ NUM } -> boxOf "1"
+  | P Degree -> boxOf "1"  # P^2
   | Gr|G ( NUM , NUM ) -> ! grassmannian 5 3
 Star = ~Ast -> ""
   | ~^ ~Ast -> ""
@@ -714,14 +722,12 @@ Where = Space
 QWhere = Where -> space quantum
 OWhere = Where -> space ordinary
 QPower = q -> word "1"
-  | q ~^ ~NUM
-  | q ~^ ~{ NUM }
+  | q Degree
 PointClass = point class? -> point
   | [ pt ] -> point
 Class "a class" = σ|s Index
   | Lam
-  | NUM -> ! digits  # 2*1 in QH*(Gr(2,4))
-  | [ X Index ]
+  | [ X Index ] -> ? 3  # of this codimension, or dimension
   | PointClass
   | hyperplane class? -> copies "1" "1"
   | h|H|x -> ? copies "1" "1"
@@ -750,7 +756,11 @@ LrName = LR|lr -> ""
 ProductOfPair = ProductOf ClassPair
   | cup ProductOf ClassPair|Classes -> typedWith cup
 Stop = ,|:|; -> ""
+Numbers = Digits *|· Digits -> list
+  | Numbers *|· Digits -> add
 Question = Classes Equals? Stop? Where -> classesIn
+  | Numbers Where -> ! classesIn  # 2*1 in QH*(Gr(2,4))
+  | NUM *|·? Classes ,? Where -> ! classesIn 3 5  # a factor in front
   | Where Stop? Classes|ProductOfPair -> classesIn 3 1
   | ProductOfPair ,? Where -> classesIn
   | product of? Both Where -> classesIn
@@ -792,8 +802,7 @@ ListProduct = ListFactor *|· ListFactor -> addAll  # (2,1)*(2,1)
   | ListFactor ∗ ListFactor -> ? addAll  # or the internal product
   | ListProduct ∗ ListFactor -> ? addAll
   | Round Exp -> listPower  # (2,1)^2
-Reflection = s ~_ ~NUM -> list
-  | s ~_ ~{ NUM } -> list
+Reflection = s Lowered -> list
   | s ~NUM -> list
 Reflections = Reflection *|·? Reflection -> list
   | Reflections *|·? Reflection -> add
@@ -826,9 +835,6 @@ Irreducibles = IntoSum irreducible|irreducibles|irreps representations|component
 Tensor = ListFactor|Tensor ⊗ ListFactor -> addAll
   | Indexed ⊗ Indexed -> list
   | Tensor ⊗ Indexed -> add
-Degree = ~^ ~NUM
-  | ~^ ~{ NUM }
-  | ~sup
 Functor "a functor" = sym Degree -> functor h
   | symmetric square of? -> functor h "2"
   | exterior square of? -> functor e "2"
@@ -839,8 +845,8 @@ Functor "a functor" = sym Degree -> functor h
 V_ = V -> ""
   | C ~^ ~n -> ""
   | ( V ) -> ""
-Cn = C ~^ ~NUM
-  | ( C ~^ ~NUM )
+Cn = CPower
+  | ( CPower )
 Vector = V -> copies "1" "1"
 OneV = Vector -> atom s
 Module = OneV
@@ -854,8 +860,7 @@ Composite = Functor ( Functor V_ ) -> composed
   | Functor Functor V_ -> composed
   | Functor ( Modules ) -> composed
 CompositeIn = Functor ( Functor Cn ) -> composed 1 3
-GlOf = GL|U ~_ ~NUM
-  | GL|U ~_ ~{ NUM }
+GlOf = GL|U Lowered
   | GL|U ( NUM )
   | GL ~NUM
   | GlOf ~( C )
@@ -886,8 +891,7 @@ Littlewood = ListFactor ⊗ ListFactor -> littlewood
 FunctorOf = Functor of Functor|Atom -> composed
 ModulePair = Module By Module -> timesText
 Restrict = restriction|restrict|res of? specht? module? -> ""
-Sn = S ~_ ~NUM
-  | S ~_ ~{ NUM }
+Sn = S Lowered
 Pair_ = young subgroup|subgroups -> ""
   | young? subgroup|subgroups? SAny *|· SAny -> ""
 SAny = Sn -> ""
@@ -931,9 +935,8 @@ LieName = su|SU|sl|SL -> ""
   | widehat ~{ su|sl } -> ""
 Lie = LieName ( NUM )
   | U ( NUM ) -> ? 3
-  | LieName ~_ ~NUM
   | LieName ~NUM
-  | LieName ~_ ~{ NUM }
+  | LieName Lowered
 Level = at|, level NUM
   | , k = NUM
   | level NUM
@@ -999,7 +1002,7 @@ Factors "lists" = Dash -> factorsOf dash
   | Side -> factorsOf side
   | ( Call )
   | ( Side ) -> factorsOf side
-  | ( Dash ) -> factorsOf dash
+  | ( Dash ) -> factorsOf minus  # (s_1 - s_2): or a difference
   | ( Star_ ) -> factorsOf star
   | Times -> factorsOf star
 Opt = Rows
