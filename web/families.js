@@ -232,7 +232,7 @@ function refuseTwoReadings(template, { apart }, kinds, values) {
 
 /** Whether a name means something in the notations. */
 function isNotation(name) {
-  const signs = (line) => line.replace(/ *(?:->|#).*/, "").split(/[\s|]+/).map((it) => it.replace(/^[~␣]+|\?$/g, ""));
+  const signs = (line) => line.replace(/ *(?:->|[%#]).*/, "").split(/[\s|]+/).map((it) => it.replace(/^[~␣]+|\?$/g, ""));
   return !/[λμνuvw]/.test(name) && !NUMBER_LETTERS.test(name) && (notation().same.has(name) || NOTATIONS.split("\n").some((line) => signs(line).includes(name)));
 }
 

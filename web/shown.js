@@ -237,7 +237,7 @@ function shownArticle(job, { status, text = "", time, stopped, why, error }) {
   const header = element("header", {}, title, element("span", {}, aboutOf(status, count, time, stopped, unread)));
   const article = element("article", { "aria-labelledby": id, tabindex: "-1" }, header, ...changesOf(job), ...(found ? askedNote(job, found) : []), ...(isDone ? insteadOf(job) : []), ...computed);
   if (!isDone) article.className = "refused";
-  article.dataset.of = line;
+  article.dataset.of = keyOf(job);
   article.dataset.title = named(inSight(addressOf(job)));
   entitle(article.dataset.title);
   if (isDone) answersOfArticles.set(article, { line, text });

@@ -28,7 +28,7 @@ function plainLine(typed) {
 }
 
 /** A reading by its line and what is asked for of its answer. */
-const keyOf = (it) => `${it.line}|${it.asked ? JSON.stringify(it.asked) : ""}`;
+const keyOf = ({ line, asked }) => line + (asked ? JSON.stringify(asked) : "");
 
 /** Readings in the order in which they are offered, each once: digits apart before numbers of several digits, those that are 0 by size last. */
 function offered(readings) {
@@ -79,11 +79,10 @@ function readTyped(typed) {
   const { sure, repairs, isCut, why, stop } = readingsOf(line);
   // (a formula as the page writes it runs, though it is 0 by its sizes)
   const isWritten = (it, shown = computedBy(it.line, it.asked)) => [typedOf(it), shown, plainFormula(shown)].includes(line), areSeveral = (all) => new Set(all.map(keyOf)).size > 1;
-  const isSure = (it) => !it.isDoubtful && (!it.zero || isWritten(it));
+  // (what is doubtful, and 0 by its sizes, is hardly meant, but of a command)
+  const isSure = (it) => !it.isDoubtful && (!it.zero || isWritten(it)), isMeant = (it) => !it.zero || !it.isDoubtful || GRAMMAR.has(/^[a-z]*/.exec(line)[0]);
   const own = areSeveral(sure) ? sure.filter((it) => isWritten(it)) : [], meant = own.length > 0 ? own : sure;
   if (meant.length > 0 && !areSeveral(meant) && !isCut && meant.every(isSure)) return { line: meant[0].line, changes, asked: meant[0].asked };
-  // (what is doubtful, and 0 by its sizes, is hardly meant)
-  const isMeant = (it) => !it.zero || !it.isDoubtful || GRAMMAR.has(/^[a-z]*/.exec(line)[0]);
   if (sure.some(isMeant)) return severalRead(line, changes, offered([...sure, ...(sure.every((it) => it.zero) ? repairs : [])]), isCut);
   if (isCut) return unread(line, changes, why || sentence("beyond"));
   return notRead(line, changes, { offers: offered(repairs.length > 0 ? repairs : withOtherName(line).filter(isMeant)), stop: sure.length > 0 ? { isZero: true } : stop });
