@@ -317,7 +317,7 @@ function rowRead(typed) {
 /** The same for the notations: each row has one reading, of the same command as the first one. */
 function linesRead(text, rows) {
   const first = text(rows[0].values), read = rowRead(first), kindOf = (it) => `${textsOfWords(it.line)[0]} ${it.asked?.kind ?? ""}`;
-  if (read.unread || !isCommand(textsOfWords(read.line))) throw new NoFamily(sentence("family row", { row: named(first), said: read.unread?.said ?? "" }).trim(), 0, 0);
+  if (read.unread || !isCommand(textsOfWords(read.line))) throw new NoFamily(sentence("family row", { row: named(first), said: (read.unread?.said ?? "").replace(/ (?:It can mean:|Which .*)$/, "") }).trim(), 0, 0);
   if (rows.length > MOST_ROWS_READ) throw tooMany(MOST_ROWS_READ);
   return (row) => {
     const typed = text(row.values), it = rowRead(typed), isSame = !it.unread && kindOf(it) === kindOf(read);

@@ -760,6 +760,7 @@ Numbers = Digits *|· Digits -> list
   | Numbers *|· Digits -> add
 Question = Classes Equals? Stop? Where -> classesIn
   | Numbers Where -> ! classesIn  # 2*1 in QH*(Gr(2,4))
+  | Where Stop? Numbers -> ! classesIn 3 1
   | NUM *|·? Classes ,? Where -> ! classesIn 3 5  # a factor in front
   | Where Stop? Classes|ProductOfPair -> classesIn 3 1
   | ProductOfPair ,? Where -> classesIn
