@@ -48,9 +48,9 @@ function readingsOf(line) {
   return { sure, repairs: readings.filter((it) => it.isRepair && !keys.has(keyOf(it))), isCut: isMany || cutShort.is, why: cutShort.why, stop };
 }
 
-/** What can come at a place, as the page calls it, in the order of the notations, where what binds more tightly stands first; a bracket that closes last. */
+/** What can come at a place, as the page calls it, in the order of the notations, where what binds more tightly stands first; a comma and a bracket that closes last. */
 function expectedAt(states) {
-  const rank = ({ of, name }) => of.id + (/^[)\]}]$/.test(name) ? 9999 : 0), nameOf = (name, sign, rule) => notation().labels.get(name) ?? SENTENCES["next sign"][sign] ?? (rule >= 0 || /^(?:[A-Za-z]{2}|[Ā-ɏ])/.test(sign) ? "" : sign);
+  const rank = ({ of, name }) => of.id + 999 * (",)]}".indexOf(name) + 1), nameOf = (name, sign, rule) => notation().labels.get(name) ?? SENTENCES["next sign"][sign] ?? (rule >= 0 || /^(?:[A-Za-z]{2}|[Ā-ɏ])/.test(sign) ? "" : sign);
   return [...new Set([...states].sort((a, b) => rank(a) - rank(b)).map((it) => nameOf(it.name, it.name.split("|")[0], it.rule)))].filter(Boolean).slice(0, 6);
 }
 
