@@ -243,7 +243,7 @@ const IN_LIST = "(?<=[([,]\\s*)[\\p{L}\\d]+(?:[-+*][\\p{L}\\d]+)*(?=\\s*[)\\],])
 function notationOf(template, kinds) {
   const used = [...kinds.keys()].find(isNotation);
   if (used) throw new NoFamily(sentence("family sign", { name: used }), 0, template.length);
-  const list = (value) => `${value.join(",")}${value.length === 1 ? "," : ""}`, inBrackets = (name, value) => (/[uvw]/.test(name) ? `[${value}]` : `(${list(value)})`);
+  const list = (value) => `${value.join(",")}${value.length === 1 ? "," : ""}`, inBrackets = (name, value) => (/[uvw]/.test(name) ? `[${list(value)}]` : `(${list(value)})`);
   const pieces = [...template.matchAll(new RegExp(`\\\\[A-Za-z]+|${IN_LIST}|[A-Za-z]+|.`, "gsu"))].map(({ 0: text, index }) => {
     const before = template[index - 1] ?? "", after = template[index + text.length] ?? "", isAlone = /[([]/.test(before) && /[)\]]/.test(after);
     const number = text.length > 1 && /\p{L}/u.test(text) ? numberOf(text, kinds) : null;

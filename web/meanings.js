@@ -18,7 +18,7 @@ const few = (lists) => (lists.length <= LIMITS.factors ? lists : tooMuch());
 /** A list with how it was typed. */
 const typedWith = (how, list) => Object.defineProperty([...list], "how", { value: how });
 const isPartition = (list) => list && isDecreasing(list);
-const isNumber = (list) => list.length === 1 && list.how === "digits";
+const isNumber = (list) => list.length === 1 && list.how === "bare";
 const sizeOfAll = (lists) => sumOf(lists.flat());
 
 /** Digits as numbers, zeros only at the end, or as one number, with an exponent: it is that of the last digit, or of the whole number; without braces it has one digit or all. */

@@ -151,7 +151,8 @@ Lowered = ~_ ~NUM
 IndexPower = ~_ ~NUM ~^ ~NUM -> digitsPower  # s_1^3 as s_{1^3}
   | ~_ ~NUM ~^ ~{ NUM } -> digits
 Upper = ~^ ~{ Sub }
-  | ~^ ~Round|Square|Empty
+  | ~^ ~Round|Square
+  | ~^ ~( ) -> list
 Above = Upper
   | ~^ ~NUM -> digits
 Lower = ~_ ~{ Sub }
@@ -356,6 +357,7 @@ Question = Sum InVariables -> product
   | dimension of? Functor Cn -> inGl
   | dimension of? GlOf Irreducible? OfArg -> inGl 5 3
   | dimension of? Irreducible? OfArg ForGl -> inGl
+  | dimension of? V OfIndex ForGl -> inGl
   | SAtom ~( Letters ) -> ? polynomial  # that of a permutation whose code increases
   | product of? And -> bare 3
   | multiply And -> bare 2
@@ -419,12 +421,12 @@ Coproduct = Δ of Arg
 EqualsSum = = Σ s ~_ ~{ Greek / Greek } ⊗ s ~_ Greek -> ""
 ProductsOf = , in products s ~_ ~{ μ } ( x ) s ~_ ~{ ν } ( y ) -> ""
   | , in products s μ ( x ) s ν ( y ) -> ""
-Cell = Compact -> typedWith digits
+Cell = Compact -> typedWith bare
   | Greek = List
   | Round|Square
   | { Inside }
   | Empty
-Spaced = Compact -> typedWith digits
+Spaced = Compact -> typedWith bare
   | Blanks
 Cells = Cell , Cell -> list  # 21,21
   | Spaced , Spaced -> list  # 2^2,2 1^2
