@@ -320,19 +320,19 @@ const MEANINGS = {
     const affine = from(isAffine, (list) => ofLabels(list.slice(1))), dimensions = from((list) => list.length === 1 && ofDimension(list), (list) => [...ofDimension(list), ...(list[0] === "1" ? [0] : [])].map(String));
     const spins = rows === "2" && from((list) => list.length === 1 && 2 * list[0] <= most, ([number]) => [String(2 * number)]);
     const isDoubtful = it.isDoubtful || (rows !== "2" && isOpen && it.lists.every((list) => list.length === 1));
-    return eitherOf(fusionOf({ ...it, isDoubtful }, rows, level), rows !== "2" && from(isOf(rows), ofLabels), affine, dimensions, spins);
+    return eitherOf(fusionOf({ ...it, isDoubtful }, rows, level), rows !== "2" && from(isOf(rows), ofLabels), affine, doubtful({ isDoubtful: it.lists.some((list) => list.how === "digits" && list[0] <= most) }, dimensions), spins);
   },
   inducedByOne: (letters, upTo, list) => (sumOf(list) === Number(letters) && Number(upTo) === sumOf(list) + 1 ? productOf([list, ["1"]]) : null),
   induced: (groups, lists) => (groups.join() === lists.map((it) => String(sumOf(it))).join() ? productOf(lists) : null),
   permutationModule: (groups, one) => (one === "1" ? reading("expand s", atomText("h", descending(groups))) : null),
-  restricted: (letters, list) => (sumOf(list) === Number(letters) + 1 ? skewOf("skew", [list, ["1"]]) : null),
+  restricted: (letters, list, upTo = sumOf(list)) => (sumOf(list) === Number(letters) + 1 && Number(upTo) === sumOf(list) ? skewOf("skew", [list, ["1"]]) : null),
   // the arguments of a command
   operand: (how, list) => list && { list, how },
   operandDigits: (list) => ({ list, how: list.length === 1 && list[0].length === 1 ? "one" : "digits" }),
   operandPower: (list, [times, rest]) => (rest || Number(times) < 2 || Number(times) > LIMITS.factors ? null : { list, how: "list", times: Number(times) }),
   emptyFirst: (operand) => factorsOf("dash", [{ list: [], how: "list" }, operand]),
   onOneLine: (it) => (/^(?:mult|skew|expand) /.test(it.line) && !/ -m /.test(it.line) && !it.asked ? { ...it, line: it.line.replace(/^(\S+(?: -r \d+)?)/, "$1 -m") } : null),
-  listOf: ({ list }) => list,
+  listOf: ({ list, times }) => (times ? null : list),
   mult: withOptions(productWithNumbers),
   productOfGl: ({ lists }) => {
     const count = String(lists[0].length), inGl = lists.every((it) => it.length === lists[0].length) && productOf(lists, variables(count));

@@ -49,6 +49,7 @@ hash == #
 ν == nu
 Λ == \Lambda Lambda ∧ ⋀ \wedge \bigwedge
 Σ == \sum ∑ \Sigma
+Ω == \Omega
 ∫ == \int
 degree == deg
 coefficient == coeff
@@ -163,9 +164,10 @@ Exp "an exponent" = ~^ ~NUM -> exponent  # ^2; ^21 is 21, or 2 and a digit
   | ~sup -> list
   | ** NUM -> list
   | ~^ ~( NUM ) -> list
-  | squared -> list "2"
-  | cubed -> list "3"
+  | Squared -> ? 1  # of a factor, or of the product that it ends
   | to NUM power -> list
+Squared = squared -> list "2"
+  | cubed -> list "3"
 Arg "a partition" = Lam  # in a phrase
   | s Index -> typedWith index
   | Tightly
@@ -229,6 +231,7 @@ Term "an expression" = Factor
   | Term Power -> timesText  # h_3 e_2, 2 s_1
   | Term Scalar -> ! timesText  # h[2]^{2}3
 Sum "an expression" = Term
+  | Power Squared -> powerOf
   | Minus Term -> written ""
   | Sum Sign Term -> written ""
 Basis "a basis" = Family
@@ -534,7 +537,7 @@ Question = f Upper -> orSize  # f^{(3,2,1)}
   | f ~^ ~Digits -> ? standardOf  # f^2: or a square
   | f ~^ ~{ Shapes } -> standardSkew 4
   | f Lower -> ? standardOf
-  | hook -? length formula? of|for|:? dimension? of? Arg -> standardOf 8
+  | hook -? length formula of|for|:? dimension? of? Arg -> standardOf 8
   | dimension of? specht module? Arg -> standardOf 5
   | dimension of? specht module? S Upper -> standardOf 6
   | dimension of? S Upper -> orSize
@@ -566,7 +569,7 @@ AboveOfS = Above OfS -> ofSize 2 1
 OfLower = Lower -> atom s
 Number_ = Lowered|Degree -> list
 Question = χ Above ~( Inside ) -> characterOf  # χ^{31}(22)
-  | χ Above ~( Round ) -> characterOf
+  | χ Above ~( Round|Square ) -> characterOf
   | χ Above Lower -> characterOf
   | χ Lower Above -> characterOf 3 2  # which one is the irreducible?
   | χ Lower Above -> characterOf
@@ -583,6 +586,7 @@ Question = χ Above ~( Inside ) -> characterOf  # χ^{31}(22)
   | value of Lam AtClass Arg -> ? characterOf
   | Character Module_ AtClass Arg -> characterOf
   | Character Module_ AtClass Cycle -> characterAtCycle
+  | Character S Above AtClass Arg -> characterOf
   | Character Module_ -> ? characterOnly
   | < Sum , Sum > -> inner
   | Atom . scalar ( Sum ) -> inner  # Sage
@@ -729,7 +733,7 @@ PointClass = point class? -> point
   | [ pt ] -> point
 Class "a class" = σ|s Index
   | Lam
-  | [ X Index ] -> ? 3  # of this codimension, or dimension
+  | [ X|Ω Index ] -> ? 3  # of this codimension, or dimension
   | PointClass
   | hyperplane class? -> copies "1" "1"
   | h|H|x -> ? copies "1" "1"
@@ -758,9 +762,11 @@ LrName = LR|lr -> ""
 ProductOfPair = ProductOf ClassPair
   | cup ProductOf ClassPair|Classes -> typedWith cup
 Stop = ,|:|; -> ""
+OneClass = Class Squared -> listPower
 Numbers = Digits *|· Digits -> list
   | Numbers *|· Digits -> add
 Question = Classes Equals? Stop? Where -> classesIn
+  | OneClass Where -> classesIn
   | Numbers Where -> ! classesIn  # 2*1 in QH*(Gr(2,4))
   | Where Stop? Numbers -> ! classesIn 3 1
   | NUM *|·? Classes ,? Where -> ! classesIn 3 5  # a factor in front
@@ -926,9 +932,9 @@ Question = Tensor -> ! product  # of modules of GL
   | IndFrom Specht -> induced
   | IndFrom ( Specht ) -> induced
   | IndFrom NUM -> permutationModule
-  | res UpTo? ~_ ~{ Sn } S Above -> restricted 5 8
+  | res UpTo? ~_ ~{ Sn } S Above -> restricted 5 8 2
   | res UpTo? ~_ ~{ Young } S Above -> ? coproduct 8
-  | res ~_ ~{ Sn } UpTo S Above -> restricted 4 8
+  | res ~_ ~{ Sn } UpTo S Above -> restricted 4 8 6
   | Permutations -> ? expand s
   | Permutations ModulesOf -> expand s 1
 Permutations = M Above -> atom h
@@ -1201,6 +1207,7 @@ Question = all? LrTableaux OfShape? Skew -> shaped tab ""
   | Count LrTableaux OfShape? Skew -> tabNumber
   | Count LrTableaux OfShape? Skew OfContent Arg -> tabContent
 Command = expand Opt? Basis ␣Sum Opt? -> expandWith  # (expand s2 has no basis)
+  | expand Basis ␣Plethysm -> plethysm 2 3
   | expand ( Opt? Basis , Sum ) -> expandWith
   | plethysm Basis ␣Operands|Plethysm -> plethysm
   | plethysm ( Basis , Arguments ) -> plethysm
