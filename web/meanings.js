@@ -228,7 +228,7 @@ const MEANINGS = {
   expandWith: withOptions((options, basis, it) => (["", "-m"].includes(options) ? reading("expand", options, basis, it.text) : null)),
   composed: (...both) => both.map((it) => it.inside ?? it.text),
   plethysmBare: (both) => (hasFunction(both[0]) ? inEachBasis("plethysm", ...both) : null),
-  plethysm: (basis, both) => reading("plethysm", basis, ...both),
+  plethysm: (basis, both) => doubtful({ isDoubtful: !hasFunction(both[0]) }, reading("plethysm", basis, ...both)),
   inLetters: (it, count) => ({ list: it.atoms[0][1], count }),
   countOfOnes: (list) => (list.every((it) => it === "1") ? String(list.length) : null),
   inGl: (it, count) => reading("plethysm s", it.text, plainNumber(count)),
