@@ -66,6 +66,9 @@ def asked_words(formula, asked):
     if asked == "H":
         product, k, n = re.fullmatch(r"(.*) in H\*\(Gr\((\d+),(\d+)\)\)", formula).groups()
         return joined("quantum", indices(product, "σ"), "-", k, str(int(n) - int(k)))
+    if asked == "Fl":
+        u, v = re.fullmatch(r"S_(\{[\d,]+\}) · S_(\{[\d,]+\}) in H\*\(Fl\(\d+\)\)", formula).groups()
+        return f"schubmult {letters(u)} - {letters(v)}"
     return words_of(formula.replace("the number of ", "the "), "")
 
 

@@ -10,7 +10,7 @@ REFUSALS = [
     ("mult 1 2 - 1", "Part 2 is greater than part 1: 2 after 1. The parts of a partition cannot increase.", "2"),
     ("multi 2 1 - 1", "There is no command multi. Is mult meant?", "multi"),
     ("frobnicate", "There is no command frobnicate. All commands are below, under Commands.", "frobnicate"),
-    ("s[2,1]*s[2,1", "“s[2,1]*s[2,1” can be read, and something is missing after it: an exponent, ] or a comma.", ""),
+    ("s[2,1]*s[2,1", "“s[2,1]*s[2,1” can be read, and something is missing after it: an exponent, a comma or ].", ""),
     ("s_{2,1} s_{1} ! s_{1}", "“s_{2,1} s_{1}” can be read. “!” cannot come after it; what can is an exponent, a times sign, + or - or a comma.", "!"),
     ("s_{2,1}#s_{2,1}", "Kronecker products and their coefficients are not computed here.", None),
     ("G_{132}", "Grothendieck polynomials are not computed here.", None),

@@ -579,7 +579,12 @@ def back_and_forward(*where):
         for way in ("back", "forward"):
             steps.append(visit.ask(f"await went(() => history.{way}()); await quiet(); {state}"))
         steps.append(visit.ask(f"await went(() => history.back()); await went(() => history.back()); await quiet(); {state}")[::2])
-        return wrong((steps, ["rsk 2 1 – calc", ["coef 1 - 1 - – calc", "coef 1 - 1 -", 3], ["mult 1 - 1 – calc", "mult 1 - 1", 3], [TITLE, 3]]))
+        # (two questions whose answers are lines of one command)
+        for line in ("K_{(3,2),(2,2,1)}", "f^{(3,2)}"):
+            visit.run(line)
+        asked = [visit.ask(f"await went(() => history.{way}()); await quiet(); return [document.title, answers().length]") for way in ("back", "forward")]
+        wanted = ["rsk 2 1 – calc", ["coef 1 - 1 - – calc", "coef 1 - 1 -", 3], ["mult 1 - 1 – calc", "mult 1 - 1", 3], [TITLE, 3]]
+        return wrong((steps, wanted), (asked, [["K_{(3,2),(2,2,1)} – calc", 5], ["f^{(3,2)} – calc", 5]]))
 
 
 def origins(browser, path, size):

@@ -79,9 +79,9 @@ function isLight(lines) {
   return lines.length <= LIGHT.commands && lines.every((it) => it.length <= 200) && sumOf(numbers) <= LIGHT.sum;
 }
 
-/** The article that answers a line, if it is there. */
-function articleOf(line) {
-  return [...at("answers").children].find((it) => it.dataset.of === line);
+/** The article that answers what was asked, if it is there. */
+function articleOf(job) {
+  return [...at("answers").children].find((it) => it.dataset.of === keyOf(job));
 }
 
 /** Shows what the page's address has. */
@@ -96,9 +96,9 @@ function follow() {
 function followLines(lines) {
   const read = lines.map((typed) => ({ typed, ...readTyped(typed) }));
   if (read.length === 0) return undefined;
-  const inQueue = [running, ...ahead, ...waiting].map((job) => job && job.line);
-  const left = read.filter(({ line }) => !articleOf(line) && !inQueue.includes(line));
-  if (left.length === 0) return showAnswer(articleOf(read[0].line));
+  const inQueue = [running, ...ahead, ...waiting].map((job) => job && keyOf(job));
+  const left = read.filter((it) => !articleOf(it) && !inQueue.includes(keyOf(it)));
+  if (left.length === 0) return showAnswer(articleOf(read[0]));
   put(left.map((it) => withoutComment(inSight(it.typed))).join("; "));
   const isClear = left.every((it) => !it.unread || (it.unread.offers.length === 0 && !isMisseen(it.typed)));
   if (isClear && isLight(left.map((it) => it.line))) {

@@ -12,7 +12,7 @@ function itemOf(given) {
   return { name: isOptional ? name.slice(0, -1) : name, gap, isOptional };
 }
 
-/** The lines of a table: its alternatives, its classes of signs, what the page calls each, and which texts are the same as a sign. */
+/** The lines of a table: its alternatives, its classes of signs, what the page calls each, and which texts are the same as a sign. (As it is packed it has % for its arrow.) */
 function readTable(table) {
   const alternatives = [], classes = new Map(), labels = new Map(), same = new Map();
   let name = "";
@@ -25,7 +25,7 @@ function readTable(table) {
     if (kind === "==") right.split(" ").forEach((it) => same.set(it, name));
     else if (kind === ":=" || kind === "~=") classes.set(name, { signs: right.split(" "), isKept: kind === ":=" });
     else {
-      const [, items, mark, meaning = "value"] = /^(.*?) ?(?:-> ?([!?] )?(.*))?$/.exec(right);
+      const [, items, mark, meaning = "value"] = /^(.*?) ?(?:(?:->|%) ?([!?] )?(.*))?$/.exec(right);
       alternatives.push({ name, items: items.split(" ").map(itemOf), isRepair: mark === "! ", isDoubt: mark === "? ", meaning: (meaning || '""').split(" ") });
     }
   }
@@ -65,7 +65,7 @@ function grammarOf(table, meanings) {
   for (const { name, items: all, meaning, isRepair, isDoubt } of alternatives) {
     const give = giver({ items: all, meaning }, isValued, meanings), id = ids.get(name);
     for (const items of choicesOf(all, ids)) {
-      const isSame = all.length === 1 && /^(?:1|value)$/.test(meaning[0]) && ids.has(items[0].name) && !isRepair && !isDoubt;
+      const isSame = all.length === 1 && /^(?:1|value)$/.test(meaning[0]) && ids.has(items[0].name) && items[0].gap === 0 && !isRepair && !isDoubt;
       const of = { id, name, items, give, digits: 0, isRepair, isDoubt, isSame, count: all.length };
       startsOf[id].push(states.length);
       items.forEach((item, at) => states.push({ of, at, place: item.place, name: item.name, gap: item.gap, rule: ids.get(item.name) ?? -1, first: firstOfItem(item.name) }));

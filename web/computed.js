@@ -103,6 +103,7 @@ const ASKED = {
   },
   count: (_, words) => `the number of ${computed("tab", words).replace(/^the /, "")}`,
   H: (_, words) => computed("quantum", words).replace(/ \* /g, " · ").replace("in QH*", "in H*"),
+  Fl: ({ n }, words) => `${["u", "v"].flatMap(words).map(schubert).join(" · ")} in H*(Fl(${n}))`,
 };
 
 /** What a line computes, or what is asked for of its answer, in mathematics; nothing, if it is no command. (Read as a line it is that command.) */

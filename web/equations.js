@@ -160,6 +160,6 @@ function leftOf(line) {
   const words = textsOfWords(line), { equation } = GRAMMAR.get(words[0]) || {};
   if (!equation || !isCommand(words)) return { left: computedBy(line), where: "" };
   const [left, where = ""] = equation.map((it) => filled(it, argumentsOf(line)));
-  // (the comma that makes one reading of (12,) is for what is typed)
-  return { left: left.replace(/(\d),\)/g, "$1)"), where };
+  // (the comma that makes one reading of (12,), and the brackets of the identity of one letter, are for what is typed)
+  return { left: left.replace(/(\d),\)/g, "$1)").replace(/\{\[1\]\}/g, "{1}"), where };
 }

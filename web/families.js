@@ -7,7 +7,7 @@ const MOST_ROWS = 10000;
 const MOST_ROWS_READ = 1000;
 const NAME = "(?!(?:for|in|of)(?![A-Za-z]))(?:[A-Za-z]{1,20}|[\\u0370-\\u03ff])";
 /** A line with the word `for` and a bound after it, of which the last one counts. */
-const FAMILY = new RegExp(`^(.*[ \\t])?for[ \\t]+(?:all[ \\t]+)?(?=(?:(?:${NAME})[ \\t]*,[ \\t]*)*(?:${NAME})[ \\t]*(?:[=∈]|(?:in|of)(?![A-Za-z])))`, "su");
+const FAMILY = new RegExp(`^(.*[ \\t])?for[ \\t]+(?:all[ \\t]+)?(?=(?:(?:${NAME})[ \\t]*,[ \\t]*)*(?:${NAME})[ \\t]*(?:[=∈⊢]|\\\\vdash|(?:in|of)(?![A-Za-z])))`, "su");
 
 // ---- what is listed
 
@@ -118,7 +118,7 @@ function rangeOf(read, relation, kinds) {
       return LISTED[name].all(...numbers.map(Number));
     },
   });
-  if (relation === "of") return listed("partitions", [endOfBound(read, kinds)]);
+  if (/of|⊢|vdash/.test(relation)) return listed("partitions", [endOfBound(read, kinds)]);
   if (read.take("\\{")) {
     const found = [endOfBound(read, kinds)];
     while (read.take(",")) found.push(endOfBound(read, kinds));
@@ -152,7 +152,7 @@ function boundsOf(line, from) {
       if (kinds.has(name) || names.includes(name)) read.refuse(sentence("family twice", { name }), name.length);
       names.push(name);
     } while (read.take(","));
-    const relation = read.take("[=∈]|(?:in|of)(?![A-Za-z])") ?? read.stop("=", "in", "of", "a comma");
+    const relation = read.take("[=∈⊢]|\\\\vdash|(?:in|of)(?![A-Za-z])") ?? read.stop("=", "in", "of", "a comma");
     if (relation === "=" && names.length > 1) read.refuse(sentence("family several", { names: names.join(", ") }), 1);
     const range = rangeOf(read, relation, kinds);
     for (const name of names) bounds.push({ name, ...range }), kinds.set(name, range.kind);
@@ -232,8 +232,8 @@ function refuseTwoReadings(template, { apart }, kinds, values) {
 
 /** Whether a name means something in the notations. */
 function isNotation(name) {
-  const signs = (line) => line.replace(/ *(?:->|#).*/, "").split(/[\s|]+/).map((it) => it.replace(/^[~␣]+|\?$/g, ""));
-  return !/[λμν]/.test(name) && !NUMBER_LETTERS.test(name) && (notation().same.has(name) || NOTATIONS.split("\n").some((line) => signs(line).includes(name)));
+  const signs = (line) => line.replace(/ *(?:->|[%#]).*/, "").split(/[\s|]+/).map((it) => it.replace(/^[~␣]+|\?$/g, ""));
+  return !/[λμνuvw]/.test(name) && !NUMBER_LETTERS.test(name) && (notation().same.has(name) || NOTATIONS.split("\n").some((line) => signs(line).includes(name)));
 }
 
 /** A number in a list, as in `(3n,2n)`. (Alone in brackets `2n` could be two numbers.) */
@@ -243,16 +243,16 @@ const IN_LIST = "(?<=[([,]\\s*)[\\p{L}\\d]+(?:[-+*][\\p{L}\\d]+)*(?=\\s*[)\\],])
 function notationOf(template, kinds) {
   const used = [...kinds.keys()].find(isNotation);
   if (used) throw new NoFamily(sentence("family sign", { name: used }), 0, template.length);
-  const list = (value) => `${value.join(",")}${value.length === 1 ? "," : ""}`;
+  const list = (value) => `${value.join(",")}${value.length === 1 ? "," : ""}`, inBrackets = (name, value) => (/[uvw]/.test(name) ? `[${list(value)}]` : `(${list(value)})`);
   const pieces = [...template.matchAll(new RegExp(`\\\\[A-Za-z]+|${IN_LIST}|[A-Za-z]+|.`, "gsu"))].map(({ 0: text, index }) => {
     const before = template[index - 1] ?? "", after = template[index + text.length] ?? "", isAlone = /[([]/.test(before) && /[)\]]/.test(after);
     const number = text.length > 1 && /\p{L}/u.test(text) ? numberOf(text, kinds) : null;
     if (!kinds.has(text) && !number) return () => text;
     // (2^2 is two parts in a list, and n^2 a number)
     const isPower = before !== "_" && (after === "^" || /[⁰¹²³⁴-⁹]/.test(after));
-    if (/[\p{L}\d\\]/u.test(before + after) || isPower || (isAlone && !kinds.has(text))) throw new NoFamily(sentence("family place", { name: text }), index, text.length);
+    if (/[\p{L}\d]/u.test(before + after) || isPower || (isAlone && !kinds.has(text))) throw new NoFamily(sentence("family place", { name: text }), index, text.length);
     if (kinds.get(text) !== "list") return (values) => String(number ? number(values) : values.get(text));
-    return (values) => (isAlone ? list(values.get(text)) : `(${list(values.get(text))})`);
+    return (values) => (isAlone ? list(values.get(text)) : inBrackets(text, values.get(text)));
   });
   return (values) => pieces.map((it) => it(values)).join("");
 }
@@ -264,7 +264,7 @@ function familyRead(typed) {
   const { line, changes } = plainLine(typed), found = line.length > LONGEST || isMisseen(typed) ? null : FAMILY.exec(line);
   if (!found) return null;
   // (in the notations names with one value each are values of letters)
-  const isRanged = /\.\.|[{∈]|(?<![A-Za-z])(?:in|of)(?![A-Za-z])/u.test(line.slice(found[0].length));
+  const isRanged = /\.\.|[{∈⊢]|vdash|(?<![A-Za-z])(?:in|of)(?![A-Za-z])/u.test(line.slice(found[0].length));
   if (!isRanged && !GRAMMAR.has(textsOfWords(line)[0])) return null;
   try {
     return { line, changes, family: familyOf((found[1] ?? "").trimEnd(), boundsOf(line, found[0].length), line) };
@@ -308,13 +308,19 @@ function linesOfFamily(template, kinds, rows) {
   }
 }
 
+/** A row as it is read; one with a single reading, which is 0 by its sizes, is that. */
+function rowRead(typed) {
+  const it = readTyped(typed), [only, more] = it.unread?.offers ?? [];
+  return only?.zero && !more ? only : it;
+}
+
 /** The same for the notations: each row has one reading, of the same command as the first one. */
 function linesRead(text, rows) {
-  const first = text(rows[0].values), read = readTyped(first), kindOf = (it) => `${textsOfWords(it.line)[0]} ${it.asked?.kind ?? ""}`;
-  if (read.unread || !isCommand(textsOfWords(read.line))) throw new NoFamily(sentence("family row", { row: named(first), said: read.unread?.said ?? "" }).trim(), 0, 0);
+  const first = text(rows[0].values), read = rowRead(first), kindOf = (it) => `${textsOfWords(it.line)[0]} ${it.asked?.kind ?? ""}`;
+  if (read.unread || !isCommand(textsOfWords(read.line))) throw new NoFamily(sentence("family row", { row: named(first), said: (read.unread?.said ?? "").replace(/ (?:It can mean:|Which .*)$/, "") }).trim(), 0, 0);
   if (rows.length > MOST_ROWS_READ) throw tooMany(MOST_ROWS_READ);
   return (row) => {
-    const typed = text(row.values), it = readTyped(typed), isSame = !it.unread && kindOf(it) === kindOf(read);
+    const typed = text(row.values), it = rowRead(typed), isSame = !it.unread && kindOf(it) === kindOf(read);
     Object.assign(row, { typed }, isSame ? { line: it.line, asked: it.asked } : { said: it.unread ? it.unread.said ?? sentence("family row", { row: named(typed), said: "" }).trim() : sentence("family other") });
   };
 }

@@ -175,10 +175,11 @@ function toField() {
 function previewOf({ line, asked: more, unread: not, family }) {
   if (family) return rowsInShort(family);
   if (!not) return formula(computedBy(line || "", more));
-  const { offers } = not, shown_ = offers.slice(0, MOST_PREVIEWED).map((it) => formula(computedBy(it.line, it.asked)));
-  if (offers.length === 0) return [];
+  const { offers, said = "" } = not, shown_ = offers.slice(0, MOST_PREVIEWED).map((it) => [...formula(computedBy(it.line, it.asked)), ...(it.zero ? [" (0 by its sizes)"] : [])]);
+  if (offers.length === 0) return said ? [element("span", { class: "readings" }, said)] : [];
   const left = offers.length - shown_.length, more_ = left > 0 ? [` or ${left} more`] : [];
-  const count = element("span", { class: "readings" }, countOfThings(offers.length, "possible reading", "readings"), ": ");
+  // (why there are several readings is said only if that is not all there is to say)
+  const count = element("span", { class: "readings" }, /^(?:This |$)/.test(said) ? `${countOfThings(offers.length, "possible reading", "readings")}: ` : `${said} `);
   return [count, ...shown_.flatMap((it, i) => [...(i > 0 ? [" or "] : []), ...it]), ...more_, element("span", { class: "readings" }, matchMedia("(pointer: coarse)").matches ? ". Run shows them." : ". Enter shows them; Ctrl+Enter takes the first.")];
 }
 

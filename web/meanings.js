@@ -18,6 +18,7 @@ const few = (lists) => (lists.length <= LIMITS.factors ? lists : tooMuch());
 /** A list with how it was typed. */
 const typedWith = (how, list) => Object.defineProperty([...list], "how", { value: how });
 const isPartition = (list) => list && isDecreasing(list);
+const isNumber = (list) => list.length === 1 && list.how === "bare";
 const sizeOfAll = (lists) => sumOf(lists.flat());
 
 /** Digits as numbers, zeros only at the end, or as one number, with an exponent: it is that of the last digit, or of the whole number; without braces it has one digit or all. */
@@ -52,8 +53,6 @@ function powerOf(it, [times, rest]) {
   return all && rest ? timesText(all, expression(rest)) : all;
 }
 
-/** An expression without the parentheses around all of it. */
-const bared = (it) => it.inside ?? it.text;
 /** Where no basis is said, each is a reading. */
 const inEachBasis = (...words) => eitherOf(...["s", "m", "p", "h", "e"].map((it) => reading(words[0], it, ...words.slice(1))));
 const hasFunction = (text) => /[mehps]/.test(text);
@@ -77,10 +76,7 @@ function skewOf(name, shape, options = "", ...more) {
   return isSkew ? doubtful(shape, reading(name, options, between([outer, inner], "/"), ...more)) : null;
 }
 
-function coefOf([outer, ...factors]) {
-  if (!outer || factors.length !== 2 || ![outer, ...factors].every(isPartition)) return null;
-  return { ...reading("coef", between([outer, ...factors])), zero: sumOf(outer) !== sizeOfAll(factors) };
-}
+const coefOf = ([outer, ...factors]) => (factors.length === 2 && [outer, ...factors].every(isPartition) ? { ...reading("coef", between([outer, ...factors])), zero: sumOf(outer) !== sizeOfAll(factors) } : null);
 /** A coefficient; if it is 0 by its sizes, also that of the last list, where these fit. */
 function inSomeOrder(made, [first, second, third]) {
   const other = made && made.zero && !made.isDoubtful ? coefOf([third, first, second]) : null;
@@ -88,9 +84,7 @@ function inSomeOrder(made, [first, second, third]) {
 }
 
 /** A Kostka number: a coefficient of the Schur function in monomials; of a skew shape, that of s_λ in s_μ h_ν. */
-function kostkaOf(lambda, mu) {
-  return isPartition(lambda) && mu ? asking(reading("expand m", atomText("s", lambda)), { kind: "K", of: lambda, at: descending(mu) }, sumOf(lambda) !== sumOf(mu)) : null;
-}
+const kostkaOf = (lambda, mu) => (isPartition(lambda) && mu ? asking(reading("expand m", atomText("s", lambda)), { kind: "K", of: lambda, at: descending(mu) }, sumOf(lambda) !== sumOf(mu)) : null);
 function kostkaSkew([outer, inner], content) {
   if (!skewOf("skew", [outer, inner]) || !content) return null;
   return coefficientAt("s", outer, timesText(expression(atomText("s", inner), [["s", inner]]), expression(atomText("h", descending(content)), [["h", content]])));
@@ -102,12 +96,16 @@ function standardOf(list, kind = "f") {
   return ones && asking(reading("expand m", atomText("s", list)), { kind, of: list, at: ones });
 }
 
-/** A character of the symmetric group: a coefficient of the power sum in Schur functions. */
+/** A character of the symmetric group: a coefficient of the power sum in Schur functions. (χ_λ of a Schur function can be that of GL_n.) */
 function characterOf(lambda, mu) {
   // (a class with blanks could be a cycle)
-  if (!isPartition(lambda) || !isPartition(mu) || !mu.every((it) => Number(it) > 0)) return null;
-  return doubtful({ isDoubtful: mu.how === "blanks" }, asking(reading("expand s", atomText("p", mu)), { kind: "χ", of: lambda, at: mu }, sumOf(lambda) !== sumOf(mu)));
+  if (!isPartition(lambda) || !mu || !isPartition(mu) || !mu.every((it) => Number(it) > 0)) return null;
+  return doubtful({ isDoubtful: mu.how === "blanks" || lambda.how === "index" }, asking(reading("expand s", atomText("p", mu)), { kind: "χ", of: lambda, at: mu }, sumOf(lambda) !== sumOf(mu)));
 }
+
+/** The class of a permutation of so many letters, of which the fixed ones are left out, or a cycle is written for it; null if it is none. */
+const withFixed = (mu, size, class_ = isPartition(mu) ? mu : cycled([mu]) ? [String(mu.length)] : [], left = size - sumOf(class_)) =>
+  class_.length > 0 && left >= 0 && (left > 0 || class_ !== mu) && mu.every((it) => it <= size) ? typedWith("blanks", [...class_, ...copies("1", left)]) : null;
 
 /** The coefficient of a function in an expression; the scalar product of a function with an expression, by the dual basis. */
 function coefficientAt(family, list, it) {
@@ -126,10 +124,7 @@ function scalarProduct(a, b) {
 
 const areLetters = (lists) => lists.length > 0 && lists.every((it) => it && isPermutation(it));
 /** A Stanley symmetric function; without a number of variables in as many as a staircase has rows, which all its partitions are inside: so it is whole. */
-function stanleyIn(w, count) {
-  if (!w || !isPermutation(w)) return null;
-  return reading("stanley -r", plainNumber(count || String(Math.max(1, w.length - 1))), w);
-}
+const stanleyIn = (w, count) => (w && isPermutation(w) ? reading("stanley -r", plainNumber(count || String(Math.max(1, w.length - 1))), w) : null);
 
 // ---- the Grassmannian, and fusion
 const boxOf = (rows, columns) => (rows >= 1 && columns >= 1 ? { rows: Number(rows), columns: Number(columns) } : null);
@@ -160,8 +155,8 @@ function factorsOf(sign, operands) {
   const each = [].concat(operands).flatMap((it) => Array(it.times || 1).fill(it)), lists = few(each.map((it) => it.list));
   if (!lists) return null;
   const isAlone = each.map((it) => it.how === "one"), alone = isAlone.filter(Boolean).length, isMixed = alone > 0 && alone < each.length;
-  const isDoubtful = alone > 0 && (sign === "side" || (sign === "comma" && !isMixed));
-  return { lists, isAlone: isMixed && sign !== "dash" ? isAlone : null, sign, isDoubtful };
+  const isDoubtful = (alone > 0 && (sign === "side" || (sign === "comma" && !isMixed))) || (sign === "minus" && lists.some((it) => it.how === "index"));
+  return { lists, isAlone: isMixed && !/dash|minus/.test(sign) ? isAlone : null, sign, isDoubtful };
 }
 
 /** What is made of the options of a command, each once, as one text, and of its arguments. */
@@ -231,12 +226,13 @@ const MEANINGS = {
   // (in Sage s(2) inside another call is the number 2; s(3/2) is hardly meant as a number)
   sageExpand: (basis, it) => doubtful({ isDoubtful: it.isCalled || !hasFunction(it.text) }, reading("expand", basis, it.text)),
   expandWith: withOptions((options, basis, it) => (["", "-m"].includes(options) ? reading("expand", options, basis, it.text) : null)),
-  composed: (f, g) => [bared(f), bared(g)],
+  composed: (...both) => both.map((it) => it.inside ?? it.text),
   plethysmBare: (both) => (hasFunction(both[0]) ? inEachBasis("plethysm", ...both) : null),
-  plethysm: (basis, both) => reading("plethysm", basis, ...both),
+  plethysm: (basis, both) => doubtful({ isDoubtful: !hasFunction(both[0]) }, reading("plethysm", basis, ...both)),
   inLetters: (it, count) => ({ list: it.atoms[0][1], count }),
   countOfOnes: (list) => (list.every((it) => it === "1") ? String(list.length) : null),
   inGl: (it, count) => reading("plethysm s", it.text, plainNumber(count)),
+  timesOnes: (it, count) => (count > 1 ? productOf([it.atoms[0][1], copies("1", count)]) : null),
   polynomial: (it, count, [[, list]] = it.atoms, w = ofCode(Array.from({ length: count }, (_, i) => list[count - 1 - i] || "0"))) => (w && list.length <= count ? reading("schubert", w) : null),
   multInLetters: (all) => (all.every((it) => it.count === all[0].count) ? productOf(all.map((it) => it.list), variables(all[0].count)) : null),
   littlewood: ([a], [b]) => (isPartition(a) && isPartition(b) ? eitherOf([atomText("s", b), atomText("s", a)], [atomText("s", a), atomText("s", b)]) : null),
@@ -251,7 +247,7 @@ const MEANINGS = {
   listProduct: (lists, are = (form) => lists.every((it) => form.test(it.how) || (form.test("digits") && cycled([it])))) => doubtful({ isDoubtful: !lists.some((it) => it.how === "index") && (lists.some((it) => it.how === "blanks") || are(/digits/) || (new Set(lists.map(sumOf)).size === 1 && !are(/braces/))) }, productOf(lists)),
   // skew shapes, coefficients, numbers
   skew: (lists, count) => skewOf("skew", lists, variables(count)),
-  inOrder: (a, b) => (skewOf("skew", [b, a]) ? [b, a] : [a, b]),
+  inOrder: (a, b) => (skewOf("skew", [b, a]) ? [b, a] : Object.assign([a, b], { isDoubtful: true })),
   // (the rows of a ribbon begin where the next one ends)
   ribbon: (rows, ends = rows.map((_, i) => sumOf(rows.slice(i)) - (rows.length - 1 - i))) => (rows.every((it) => Number(it) > 0) ? skewOf("skew", [ends.map(String), partition(ends.slice(1).map((it) => String(it - 1)))]) : null),
   skewIn: (lists, basis) => (basis === "s" ? skewOf("skew", lists) : null),
@@ -260,11 +256,13 @@ const MEANINGS = {
   coproduct: (list) => (isPartition(list) ? reading("coprod", list) : null),
   coef: (outer, factors) => coefOf([outer, ...factors]),
   coefNot0: (outer, factors, made = coefOf([outer, ...factors])) => (made?.zero ? null : made),
-  coefWithPair: (outer, factors) => inSomeOrder(coefOf([outer, ...factors]), [outer, ...factors]),
+  // (numbers alone can be one partition)
+  coefWithPair: (outer, factors, all = [outer, ...factors]) => inSomeOrder(doubtful({ isDoubtful: all.every(isNumber) }, coefOf(all)), all),
   coefficientIn: (atom, it) => coefficientAt(...atom.atoms[0], it),
   coefficientInPlethysm: (atom, both) => asking(reading("plethysm", atom.atoms[0][0], ...both), { kind: "c", at: atom.atoms[0][1] }),
   monomial: (letters) => (letters.includes("0") ? null : MEANINGS.atom("m", descending([...new Set(letters)].map((it) => String(letters.filter((other) => other === it).length))))),
-  kostka: (lists) => kostkaOf(...lists),
+  kostka: (lists) => doubtful({ isDoubtful: lists.every(isNumber) }, kostkaOf(...lists)),
+  kostkaNot0: (...lists) => [kostkaOf(...lists)].find((it) => it && !it.zero),
   allKostka: (family, list) => (family === "m" || isPartition(descending(list)) ? reading("expand", family === "m" ? "m" : "s", atomText(family === "m" ? "s" : "h", family === "m" ? list : descending(list))) : null),
   convert: (from, basis, list) => (isPartition(list) ? reading("expand", basis, atomText(from, list)) : null),
   ofSchubert: (outer, lists) => (areLetters([outer, ...lists]) && ![outer, ...lists].every(isPartition) ? MEANINGS.permuted("schubmult", lists) : null),
@@ -273,7 +271,7 @@ const MEANINGS = {
   orSize: (list) => doubtful({ isAlone: !list[1] && list.how }, standardOf(list)),
   standardSkew: ([outer, inner]) => (isPartition(outer) && isPartition(inner) && sumOf(inner) <= sumOf(outer) ? kostkaSkew([outer, inner], copies("1", sumOf(outer) - sumOf(inner))) : null),
   ofSize: (letters, it) => (sumOf(it.flat()) === Number(letters) ? it : null),
-  characterOf: (list, mu) => eitherOf(characterOf(list, mu), mu.join() === "1" && sumOf(list) > 1 && standardOf(list)),
+  characterOf: (list, mu) => eitherOf(characterOf(list, mu), mu.join() === "1" && sumOf(list) > 1 ? standardOf(list) : characterOf(list, withFixed(mu, sumOf(list)))),
   characterAtCycle: (list, cycle) => (Number(cycle) <= sumOf(list) ? characterOf(list, [cycle, ...(copies("1", sumOf(list) - Number(cycle)) || [])]) : null),
   characterOnly: (list) => (isPartition(list) ? eitherOf(standardOf(list), reading("expand p", atomText("s", list))) : null),
   inner: (a, b) => scalarProduct(a, b) || scalarProduct(b, a),
@@ -291,6 +289,7 @@ const MEANINGS = {
   },
   doubleProduct: (lists) => eitherOf(MEANINGS.permuted("dschubmult", lists), lists.length === 2 && lists.every((it) => it.how === "xy" && it.length <= 3) && MEANINGS.permuted("schubmult", lists)),
   schubertProduct: (lists) => (lists.length <= 2 ? MEANINGS.permuted(lists.length === 1 ? "schubert" : "schubmult", lists) : areLetters(lists) ? tooMuch("Two Schubert polynomials are multiplied at a time here.") : null),
+  inFlags: (lists, n, made = (lists.every((it) => it.length <= n) && MEANINGS.schubertProduct(lists)) || null) => (lists.length === 2 ? asking(made, { kind: "Fl", n: plainNumber(n) }) : doubtful({ isDoubtful: true }, made)),
   schubertIn: (w, count) => (Number(count) >= w.length - 1 ? w : null),
   stanleyOf: (w, count) => eitherOf(stanleyIn(w, count), isPermutation(w) && stanleyIn(inverseOf(w), count)),
   nextLetter: (last, number) => (Number(number) === Number(last) + 1 ? number : null),
@@ -321,19 +320,19 @@ const MEANINGS = {
     const affine = from(isAffine, (list) => ofLabels(list.slice(1))), dimensions = from((list) => list.length === 1 && ofDimension(list), (list) => [...ofDimension(list), ...(list[0] === "1" ? [0] : [])].map(String));
     const spins = rows === "2" && from((list) => list.length === 1 && 2 * list[0] <= most, ([number]) => [String(2 * number)]);
     const isDoubtful = it.isDoubtful || (rows !== "2" && isOpen && it.lists.every((list) => list.length === 1));
-    return eitherOf(fusionOf({ ...it, isDoubtful }, rows, level), rows !== "2" && from(isOf(rows), ofLabels), affine, dimensions, spins);
+    return eitherOf(fusionOf({ ...it, isDoubtful }, rows, level), rows !== "2" && from(isOf(rows), ofLabels), affine, doubtful({ isDoubtful: it.lists.some((list) => list.how === "digits" && list[0] <= most) }, dimensions), spins);
   },
   inducedByOne: (letters, upTo, list) => (sumOf(list) === Number(letters) && Number(upTo) === sumOf(list) + 1 ? productOf([list, ["1"]]) : null),
   induced: (groups, lists) => (groups.join() === lists.map((it) => String(sumOf(it))).join() ? productOf(lists) : null),
   permutationModule: (groups, one) => (one === "1" ? reading("expand s", atomText("h", descending(groups))) : null),
-  restricted: (letters, list) => (sumOf(list) === Number(letters) + 1 ? skewOf("skew", [list, ["1"]]) : null),
+  restricted: (letters, list, upTo = sumOf(list)) => (sumOf(list) === Number(letters) + 1 && Number(upTo) === sumOf(list) ? skewOf("skew", [list, ["1"]]) : null),
   // the arguments of a command
   operand: (how, list) => list && { list, how },
   operandDigits: (list) => ({ list, how: list.length === 1 && list[0].length === 1 ? "one" : "digits" }),
   operandPower: (list, [times, rest]) => (rest || Number(times) < 2 || Number(times) > LIMITS.factors ? null : { list, how: "list", times: Number(times) }),
   emptyFirst: (operand) => factorsOf("dash", [{ list: [], how: "list" }, operand]),
   onOneLine: (it) => (/^(?:mult|skew|expand) /.test(it.line) && !/ -m /.test(it.line) && !it.asked ? { ...it, line: it.line.replace(/^(\S+(?: -r \d+)?)/, "$1 -m") } : null),
-  listOf: ({ list }) => list,
+  listOf: ({ list, times }) => (times ? null : list),
   mult: withOptions(productWithNumbers),
   productOfGl: ({ lists }) => {
     const count = String(lists[0].length), inGl = lists.every((it) => it.length === lists[0].length) && productOf(lists, variables(count));

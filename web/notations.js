@@ -49,6 +49,7 @@ hash == #
 ν == nu
 Λ == \Lambda Lambda ∧ ⋀ \wedge \bigwedge
 Σ == \sum ∑ \Sigma
+Ω == \Omega
 ∫ == \int
 degree == deg
 coefficient == coeff
@@ -74,7 +75,7 @@ Minus "-" := -
 Sch ~= S 𝔖
 Prime ~= ' ′ ’
 To ~= in to into as
-Dot "a times sign" ~= * · ∗ ⊗ ∪ ∩
+Dot "a times sign" ~= * · ∗ ∪ ∩
 Ast "a times sign" ~= * · ∗
 Over ~= / ∖
 Greek ~= λ μ ν α β ρ
@@ -133,18 +134,26 @@ Index "an index" = ~_ ~{ Below }  # s_{2,1}
   | ~_ ~NUM -> digits  # s_21
   | ~_ ~Round|Square|Empty
   | ~_ ~NUM ~, ~Tight -> ? join  # s_2,1 (a comma with two readings)
+  | ~_ ~NUM ␣Blanks|Part -> ! join  # s_2 1
   | ~. ~Square  # s.[2,1], Magma
   | ~Square  # s[2,1]
+  | ␣Square -> ! 1  # s [2,1]: a blank too many
   | ~[ ~] -> list
   | ~∅ -> list
   | ~[ { Inside } ]  # s[{2,1}], Mathematica
   | ~( Inside ) -> called  # s(2,1)
   | ~( Square )  # s([2,1]), Sage
   | ~NUM -> digits  # s21
+Degree = ~^ ~NUM
+  | ~^ ~{ NUM }
+  | ~sup
+Lowered = ~_ ~NUM
+  | ~_ ~{ NUM }
 IndexPower = ~_ ~NUM ~^ ~NUM -> digitsPower  # s_1^3 as s_{1^3}
   | ~_ ~NUM ~^ ~{ NUM } -> digits
 Upper = ~^ ~{ Sub }
   | ~^ ~Round|Square
+  | ~^ ~( ) -> list
 Above = Upper
   | ~^ ~NUM -> digits
 Lower = ~_ ~{ Sub }
@@ -155,9 +164,10 @@ Exp "an exponent" = ~^ ~NUM -> exponent  # ^2; ^21 is 21, or 2 and a digit
   | ~sup -> list
   | ** NUM -> list
   | ~^ ~( NUM ) -> list
-  | squared -> list "2"
-  | cubed -> list "3"
+  | Squared -> ? 1  # of a factor, or of the product that it ends
   | to NUM power -> list
+Squared = squared -> list "2"
+  | cubed -> list "3"
 Arg "a partition" = Lam  # in a phrase
   | s Index -> typedWith index
   | Tightly
@@ -167,9 +177,11 @@ Arg "a partition" = Lam  # in a phrase
   | schur functions Arg
   | Greek = Lam  # λ=(2,1)
 By = and|with|by -> ""
-Both "two partitions" = Arg By Arg -> list
+Twice = Arg By Arg -> list
   | Arg , and? Arg -> list
   | Arg Dot Arg -> list
+Both "two partitions" = Twice
+  | Arg ⊗ Arg -> ? list  # or the internal product
 
 # ---------------------------------------------------------------- symmetric functions
 Atom "a symmetric function" = Family Index -> atom
@@ -188,7 +200,7 @@ Power = Atom
   | Atom InX  # h_2[X]
   | Named Atom -> named
   | Paren|Det
-  | SM IndexPower -> atom  # s_1^3 (and no further exponent)
+  | SM IndexPower -> ? atom  # s_1^3 (and no further exponent)
   | Atom|Paren Exp -> powerOf
 Paren = ( Sum ) -> paren
 Det = det|determinant of? Matrix -> determinant  # of Jacobi and Trudi
@@ -219,6 +231,7 @@ Term "an expression" = Factor
   | Term Power -> timesText  # h_3 e_2, 2 s_1
   | Term Scalar -> ! timesText  # h[2]^{2}3
 Sum "an expression" = Term
+  | Power Squared -> powerOf
   | Minus Term -> written ""
   | Sum Sign Term -> written ""
 Basis "a basis" = Family
@@ -307,7 +320,7 @@ Giambelli = giambelli formula|determinant|expansion|identity? of|for|:? -> ""
 RowsOfS = S Index -> rowsOfS  # with an increasing list: its rows from the last one on
 OfS_ = RowsOfS -> atom s
 SProduct = RowsOfS -> list
-  | SProduct Dot? RowsOfS -> add
+  | SProduct Dot|⊗? RowsOfS -> add
   | RowsOfS Exp -> listPower
 InVariables = in NUM variables|vars|variable
   | with|in at most NUM rows|parts
@@ -342,9 +355,12 @@ Question = Sum InVariables -> product
   | multiply SPair -> ? product
   | SVars -> multInLetters
   | SAtom ~( Ones ) -> inGl  # s_{2,1}(1,1,1): a number in a plethysm stands for so many variables that are 1
+  | SAtom ~( Ones ) -> timesOnes  # or the product with s_{1,1,1}
+  | Value SAtom at ( Ones ) -> inGl 2 5
   | dimension of? Functor Cn -> inGl
   | dimension of? GlOf Irreducible? OfArg -> inGl 5 3
   | dimension of? Irreducible? OfArg ForGl -> inGl
+  | dimension of? V OfIndex ForGl -> inGl
   | SAtom ~( Letters ) -> ? polynomial  # that of a permutation whose code increases
   | product of? And -> bare 3
   | multiply And -> bare 2
@@ -408,12 +424,13 @@ Coproduct = Δ of Arg
 EqualsSum = = Σ s ~_ ~{ Greek / Greek } ⊗ s ~_ Greek -> ""
 ProductsOf = , in products s ~_ ~{ μ } ( x ) s ~_ ~{ ν } ( y ) -> ""
   | , in products s μ ( x ) s ν ( y ) -> ""
-Cell = Compact
+Cell = Compact -> typedWith bare
   | Greek = List
   | Round|Square
   | { Inside }
-  | ∅ -> list
-Spaced = Compact|Blanks
+  | Empty
+Spaced = Compact -> typedWith bare
+  | Blanks
 Cells = Cell , Cell -> list  # 21,21
   | Spaced , Spaced -> list  # 2^2,2 1^2
   | Cell ␣Cell -> list
@@ -426,9 +443,7 @@ Down2 = ~_ ~{ Pair }
 Monomial = XPower
   | Monomial *|·? XPower -> join
 XPower = XLetter -> part
-  | XLetter ~^ ~NUM -> part
-  | XLetter ~^ ~{ NUM } -> part
-  | XLetter ~sup -> part
+  | XLetter Degree -> part
 OfMonomial = Monomial -> monomial
 CoefName = LR coefficient|number -> ""
   | littlewood - richardson coefficient|number -> ""
@@ -459,12 +474,13 @@ Question = CoefOf Atom|OfMonomial in Term -> coefficientIn
   | how many|often ·? does Atom occur|appear in Term -> coefficientIn 5 8
   | CoefOf Atom in Plethysm -> coefficientInPlethysm
   | [ Atom ] Sum -> coefficientIn  # [s_λ] s_μ s_ν
-  | CoefOf Arg in Both -> coef
-  | CoefOf S|V Index in Tensor -> coefNot0  # (a Kronecker coefficient has other sizes)
+  | CoefOf Arg in Twice -> coef
+  | CoefOf Arg in Tensor -> coefNot0  # (a Kronecker coefficient has other sizes)
+  | CoefOf S|V Index in Tensor -> coefNot0
   | CoefOf S Above in Specht -> coefNot0
   | CoefOf S Above in ind ( Specht ) -> coef
-  | mult|multiplicity of? weight Arg in V Index -> ? kostkaOf 7 4  # or by labels of Dynkin
-  | weight multiplicity of? Arg in V Index -> kostkaOf 7 4
+  | mult|multiplicity of? weight Arg in V Index -> ? kostkaNot0 7 4  # or by labels of Dynkin
+  | weight multiplicity of? Arg in V Index -> kostkaNot0 7 4
   | weight multiplicities of? V OfIndex -> ? expand m
   | weight multiplicities of? V OfIndex ForGl -> ! expand m 5
 Kostka = K|kostka ~( Pair ) -> kostka
@@ -521,7 +537,7 @@ Question = f Upper -> orSize  # f^{(3,2,1)}
   | f ~^ ~Digits -> ? standardOf  # f^2: or a square
   | f ~^ ~{ Shapes } -> standardSkew 4
   | f Lower -> ? standardOf
-  | hook -? length formula? of|for|:? dimension? of? Arg -> standardOf 8
+  | hook -? length formula of|for|:? dimension? of? Arg -> standardOf 8
   | dimension of? specht module? Arg -> standardOf 5
   | dimension of? specht module? S Upper -> standardOf 6
   | dimension of? S Upper -> orSize
@@ -540,7 +556,7 @@ OfSize = Arg OfS -> ofSize 2 1
 Character = irreducible? character of? -> ""
   | value of character of? -> ""
   | character value of? -> ""
-  | value of -> ""
+Value = value of -> ""
 Module_ = Arg
   | Irreducible Labelled? Arg
   | for Arg
@@ -550,24 +566,27 @@ Cycle = NUM - cycle
   | transposition -> word "2"
   | identity -> word "1"
 AboveOfS = Above OfS -> ofSize 2 1
-Number_ = ~_|^ ~NUM -> list
-  | ~_|^ ~{ NUM } -> list
+OfLower = Lower -> atom s
+Number_ = Lowered|Degree -> list
 Question = χ Above ~( Inside ) -> characterOf  # χ^{31}(22)
-  | χ Above ~( Round ) -> characterOf
+  | χ Above ~( Round|Square ) -> characterOf
   | χ Above Lower -> characterOf
   | χ Lower Above -> characterOf 3 2  # which one is the irreducible?
   | χ Lower Above -> characterOf
   | χ Lower ~( Inside|Round ) -> characterOf
+  | χ OfLower ~( Ones ) -> inGl  # of GL_n
   | χ ~( Inner ; Inner ) -> characterOf
   | χ Above -> ? characterOnly
   | χ ( Lam , Lam ) -> characterOf  # Maple
   | χ Square Square -> characterOf
   | χ Round Round -> characterOf
   | Symmetrica? charvalue ( Lam , Lam ) -> characterOf
-  | Character? χ Above|AboveOfS AtClass Arg -> characterOf 3 5
-  | Character? χ Above AtClass Cycle -> characterAtCycle 3 5
+  | Character|Value? χ Above|AboveOfS AtClass Arg -> characterOf 3 5
+  | Character|Value? χ Above AtClass Cycle -> characterAtCycle 3 5
+  | value of Lam AtClass Arg -> ? characterOf
   | Character Module_ AtClass Arg -> characterOf
   | Character Module_ AtClass Cycle -> characterAtCycle
+  | Character S Above AtClass Arg -> characterOf
   | Character Module_ -> ? characterOnly
   | < Sum , Sum > -> inner
   | Atom . scalar ( Sum ) -> inner  # Sage
@@ -611,14 +630,16 @@ SPolys = SPoly -> list
 DPolys = DPoly -> list
   | DPolys Dot? DPoly -> add
   | DPoly Exp -> listPower
-Flags = Fl ( NUM ) -> ""
-  | Fl ~_ ~NUM -> ""
-  | Fl ~_ ~{ NUM } -> ""
-InFlags = in? cohomology? of? Flags -> ""
-  | in? H Star ~( Flags ) -> ""
-  | in? H ~_ T ~^ ~Ast ~( Flags ) -> ""
+Flags = Fl ( NUM )
+  | Fl Lowered
+InFlags = in? cohomology? of? Flags
+  | in? H Star ~( Flags )
+InEquivariant = in? H ~_ T ~^ ~Ast ~( Flags ) -> ""
 FlagClass = σ Perm
   | [ X Perm ]
+FlagClasses = FlagClass Dot? FlagClass -> list
+  | FlagClass Exp -> listPower
+FlagPair = FlagClass By FlagClass -> list
 Monk = schubert structure constants|coefficients of|for|:? -> ""
   | schubert polynomials? product|multiplication of|for|:? -> ""
 OfW = w = -> ""
@@ -628,20 +649,22 @@ InSchubert = In schubert polynomials|basis|classes -> ""
 Question = SPolys -> schubertProduct
   | Convert? SPolys InSchubert -> schubertProduct 2
   | RuleOf WOther -> permuted schubmult
-  | InFlags :|, SPolys -> ? schubertProduct
-  | FlagClass Dot? FlagClass InFlags? -> ? permuted schubmult
+  | InFlags :|, SPolys -> inFlags 3 1
+  | FlagClasses -> ? permuted schubmult
+  | FlagClasses InFlags -> ? inFlags  # of u, or of w_0 u
   | Compact *|· Compact -> ? permuted schubmult
   | product|multiply of? Compact By Compact -> ? permuted schubmult
-  | product of? schubert classes FlagClass By FlagClass InFlags -> ? permuted schubmult
+  | product of? schubert classes FlagPair InFlags -> ? inFlags
   | multiply SPolys By SPoly -> permuted schubmult 2 4
   | multiply schubert polynomials of? for? WOther -> permuted schubmult
   | double schubert polynomials|product DPolys -> permuted dschubmult
   | product of? double schubert polynomials of? for? WOther -> permuted dschubmult
-  | equivariant product of? schubert? classes? WOther InFlags? -> ? permuted dschubmult 6
+  | equivariant product of? schubert? classes? WOther InEquivariant? -> ? permuted dschubmult 6
   | symmetrica . mult_schubert_schubert WOther -> permuted schubmult
   | OfS_ -> ? bare  # S_{321}: of Schubert, or of Schur
   | OfS_ ~( x ) -> ? bare
-  | SPolys InFlags -> ? schubertProduct
+  | SPolys InFlags -> inFlags
+  | SPolys InEquivariant -> ? permuted dschubmult
   | DPolys -> doubleProduct
   | product of? schubert? polynomials? SPolys By SPoly -> permuted schubmult 5 7
   | schubmult_py WOther -> permuted schubmult
@@ -673,16 +696,17 @@ XLetter = x ~_ ~NUM
 Stanley = stanley symmetric? functions? -> ""
   | stable schubert polynomials -> ""
 # ---------------------------------------------------------------- the Grassmannian
+CPower = C Degree
 GrOf "Gr(k,n)" = Gr ~_ ~{ NUM , NUM } -> grassmannian
   | Gr ( NUM , NUM ) -> grOrLines  # Gr(1,3): a plane, or the lines of P^3
-  | Gr|G ( NUM , C ~^ ~NUM ) -> grassmannian  # Gr(2,C^5)
-  | Gr|G ( NUM , C ~^ ~{ NUM } ) -> grassmannian
+  | Gr|G ( NUM , CPower ) -> grassmannian  # Gr(2,C^5)
+  | Gr|G ~_ ~NUM ( CPower ) -> grassmannian
+  | Gr ~_ ~NUM ( NUM ) -> grassmannian
   | grassmannian Gr? ( NUM , NUM ) -> grOrLines
   | 𝔾 ( NUM , NUM ) -> subspaces  # of projective subspaces, or as Gr
   | grassmannian? G|𝔾 ( NUM , NUM ) -> grassmannian
   | grassmannian? G ( NUM , NUM ) -> subspaces
-  | P ~^ ~NUM -> boxOf "1"  # P^2
-  | P ~^ ~{ NUM } -> boxOf "1"
+  | P Degree -> boxOf "1"  # P^2
   | Gr|G ( NUM , NUM ) -> ! grassmannian 5 3
 Star = ~Ast -> ""
   | ~^ ~Ast -> ""
@@ -704,14 +728,12 @@ Where = Space
 QWhere = Where -> space quantum
 OWhere = Where -> space ordinary
 QPower = q -> word "1"
-  | q ~^ ~NUM
-  | q ~^ ~{ NUM }
+  | q Degree
 PointClass = point class? -> point
   | [ pt ] -> point
 Class "a class" = σ|s Index
   | Lam
-  | NUM -> ! digits  # 2*1 in QH*(Gr(2,4))
-  | [ X Index ]
+  | [ X|Ω Index ] -> ? 3  # of this codimension, or dimension
   | PointClass
   | hyperplane class? -> copies "1" "1"
   | h|H|x -> ? copies "1" "1"
@@ -740,7 +762,14 @@ LrName = LR|lr -> ""
 ProductOfPair = ProductOf ClassPair
   | cup ProductOf ClassPair|Classes -> typedWith cup
 Stop = ,|:|; -> ""
+OneClass = Class Squared -> listPower
+Numbers = Digits *|· Digits -> list
+  | Numbers *|· Digits -> add
 Question = Classes Equals? Stop? Where -> classesIn
+  | OneClass Where -> classesIn
+  | Numbers Where -> ! classesIn  # 2*1 in QH*(Gr(2,4))
+  | Where Stop? Numbers -> ! classesIn 3 1
+  | NUM *|·? Classes ,? Where -> ! classesIn 3 5  # a factor in front
   | Where Stop? Classes|ProductOfPair -> classesIn 3 1
   | ProductOfPair ,? Where -> classesIn
   | product of? Both Where -> classesIn
@@ -782,8 +811,7 @@ ListProduct = ListFactor *|· ListFactor -> addAll  # (2,1)*(2,1)
   | ListFactor ∗ ListFactor -> ? addAll  # or the internal product
   | ListProduct ∗ ListFactor -> ? addAll
   | Round Exp -> listPower  # (2,1)^2
-Reflection = s ~_ ~NUM -> list
-  | s ~_ ~{ NUM } -> list
+Reflection = s Lowered -> list
   | s ~NUM -> list
 Reflections = Reflection *|·? Reflection -> list
   | Reflections *|·? Reflection -> add
@@ -816,9 +844,6 @@ Irreducibles = IntoSum irreducible|irreducibles|irreps representations|component
 Tensor = ListFactor|Tensor ⊗ ListFactor -> addAll
   | Indexed ⊗ Indexed -> list
   | Tensor ⊗ Indexed -> add
-Degree = ~^ ~NUM
-  | ~^ ~{ NUM }
-  | ~sup
 Functor "a functor" = sym Degree -> functor h
   | symmetric square of? -> functor h "2"
   | exterior square of? -> functor e "2"
@@ -829,8 +854,8 @@ Functor "a functor" = sym Degree -> functor h
 V_ = V -> ""
   | C ~^ ~n -> ""
   | ( V ) -> ""
-Cn = C ~^ ~NUM
-  | ( C ~^ ~NUM )
+Cn = CPower
+  | ( CPower )
 Vector = V -> copies "1" "1"
 OneV = Vector -> atom s
 Module = OneV
@@ -844,8 +869,7 @@ Composite = Functor ( Functor V_ ) -> composed
   | Functor Functor V_ -> composed
   | Functor ( Modules ) -> composed
 CompositeIn = Functor ( Functor Cn ) -> composed 1 3
-GlOf = GL|U ~_ ~NUM
-  | GL|U ~_ ~{ NUM }
+GlOf = GL|U Lowered
   | GL|U ( NUM )
   | GL ~NUM
   | GlOf ~( C )
@@ -876,8 +900,7 @@ Littlewood = ListFactor ⊗ ListFactor -> littlewood
 FunctorOf = Functor of Functor|Atom -> composed
 ModulePair = Module By Module -> timesText
 Restrict = restriction|restrict|res of? specht? module? -> ""
-Sn = S ~_ ~NUM
-  | S ~_ ~{ NUM }
+Sn = S Lowered
 Pair_ = young subgroup|subgroups -> ""
   | young? subgroup|subgroups? SAny *|· SAny -> ""
 SAny = Sn -> ""
@@ -909,9 +932,9 @@ Question = Tensor -> ! product  # of modules of GL
   | IndFrom Specht -> induced
   | IndFrom ( Specht ) -> induced
   | IndFrom NUM -> permutationModule
-  | res UpTo? ~_ ~{ Sn } S Above -> restricted 5 8
+  | res UpTo? ~_ ~{ Sn } S Above -> restricted 5 8 2
   | res UpTo? ~_ ~{ Young } S Above -> ? coproduct 8
-  | res ~_ ~{ Sn } UpTo S Above -> restricted 4 8
+  | res ~_ ~{ Sn } UpTo S Above -> restricted 4 8 6
   | Permutations -> ? expand s
   | Permutations ModulesOf -> expand s 1
 Permutations = M Above -> atom h
@@ -921,9 +944,8 @@ LieName = su|SU|sl|SL -> ""
   | widehat ~{ su|sl } -> ""
 Lie = LieName ( NUM )
   | U ( NUM ) -> ? 3
-  | LieName ~_ ~NUM
   | LieName ~NUM
-  | LieName ~_ ~{ NUM }
+  | LieName Lowered
 Level = at|, level NUM
   | , k = NUM
   | level NUM
@@ -989,7 +1011,7 @@ Factors "lists" = Dash -> factorsOf dash
   | Side -> factorsOf side
   | ( Call )
   | ( Side ) -> factorsOf side
-  | ( Dash ) -> factorsOf dash
+  | ( Dash ) -> factorsOf minus  # (s_1 - s_2): or a difference
   | ( Star_ ) -> factorsOf star
   | Times -> factorsOf star
 Opt = Rows
@@ -1185,6 +1207,7 @@ Question = all? LrTableaux OfShape? Skew -> shaped tab ""
   | Count LrTableaux OfShape? Skew -> tabNumber
   | Count LrTableaux OfShape? Skew OfContent Arg -> tabContent
 Command = expand Opt? Basis ␣Sum Opt? -> expandWith  # (expand s2 has no basis)
+  | expand Basis ␣Plethysm -> plethysm 2 3
   | expand ( Opt? Basis , Sum ) -> expandWith
   | plethysm Basis ␣Operands|Plethysm -> plethysm
   | plethysm ( Basis , Arguments ) -> plethysm

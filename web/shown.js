@@ -157,9 +157,9 @@ function askedOf({ line, asked }, text) {
   const answer = answerOf(line, text), same = (list) => (it) => String(it) === String(partition(list).map(Number));
   if (!asked || !answer) return null;
   if (asked.kind === "count") return { value: String(sizeOf(answer, text)), isAsked: () => false };
-  const isTerm = asked.kind === "H" ? (it) => it.q === "0" : (it) => same(asked.kind === "χ" ? asked.of : asked.at)(it.first) && (it.q ?? "0") === String(asked.q ?? 0);
+  const sum = { H: (it) => it.q === "0", Fl: (it) => it.first.length <= asked.n }[asked.kind], isTerm = sum ?? ((it) => same(asked.kind === "χ" ? asked.of : asked.at)(it.first) && (it.q ?? "0") === String(asked.q ?? 0));
   const terms = answer.terms.filter(isTerm), isAsked = (it) => (termsOf(`${it}\n`) || []).some(isTerm);
-  return { value: asked.kind === "H" ? shownSum(terms, answer.letter) : (terms[0] || { c: "0" }).c.replace("-", "−"), isAsked, terms };
+  return { value: sum ? shownSum(terms, answer.letter) : (terms[0] || { c: "0" }).c.replace("-", "−"), isAsked, terms };
 }
 
 /** The answer to what was asked for, above the whole answer: its left side and its value, and the line that says it. */
@@ -237,7 +237,7 @@ function shownArticle(job, { status, text = "", time, stopped, why, error }) {
   const header = element("header", {}, title, element("span", {}, aboutOf(status, count, time, stopped, unread)));
   const article = element("article", { "aria-labelledby": id, tabindex: "-1" }, header, ...changesOf(job), ...(found ? askedNote(job, found) : []), ...(isDone ? insteadOf(job) : []), ...computed);
   if (!isDone) article.className = "refused";
-  article.dataset.of = line;
+  article.dataset.of = keyOf(job);
   article.dataset.title = named(inSight(addressOf(job)));
   entitle(article.dataset.title);
   if (isDone) answersOfArticles.set(article, { line, text });

@@ -17,7 +17,7 @@ function signsOf(text, { words, same }) {
   const put = (kind, at, end, value = kind) => {
     if (kind === "blank") return void (gap = true);
     if (kind === "nothing") return;
-    const isNumber = /^\d+$/.test(kind);
+    const isNumber = /^\d/.test(kind);
     signs.push({ kind: isNumber ? "NUM" : kind, value: isNumber ? kind : value, at, end, gap: gap && signs.length > 0 && !"_^".includes(signs[signs.length - 1].kind) });
     gap = false;
   };

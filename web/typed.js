@@ -8,8 +8,7 @@ const LONGEST = 4096;
 const MOST_OFFERED = 12;
 
 /** The notations, made ready for the first line that is none of the program. */
-const ready = {};
-const notation = () => (ready.notation ??= grammarOf(NOTATIONS, MEANINGS));
+const notation = () => (notation.made ??= grammarOf(NOTATIONS, MEANINGS));
 
 /** A line without what is no part of it, and what that was, in words. */
 function plainLine(typed) {
@@ -29,7 +28,7 @@ function plainLine(typed) {
 }
 
 /** A reading by its line and what is asked for of its answer. */
-const keyOf = (it) => `${it.line}|${it.asked ? JSON.stringify(it.asked) : ""}`;
+const keyOf = ({ line, asked }) => line + (asked ? JSON.stringify(asked) : "");
 
 /** Readings in the order in which they are offered, each once: digits apart before numbers of several digits, those that are 0 by size last. */
 function offered(readings) {
@@ -49,10 +48,10 @@ function readingsOf(line) {
   return { sure, repairs: readings.filter((it) => it.isRepair && !keys.has(keyOf(it))), isCut: isMany || cutShort.is, why: cutShort.why, stop };
 }
 
-/** What can come at a place, as the page calls it. */
+/** What can come at a place, as the page calls it, in the order of the notations, where what binds more tightly stands first; a comma and a bracket that closes last. */
 function expectedAt(states) {
-  const nameOf = (name, sign, rule) => notation().labels.get(name) ?? SENTENCES["next sign"][sign] ?? (rule >= 0 || /^(?:[A-Za-z]{2}|[Ā-ɏ])/.test(sign) ? "" : sign);
-  return [...new Set(states.map((it) => nameOf(it.name, it.name.split("|")[0], it.rule)))].filter(Boolean).slice(0, 6);
+  const rank = ({ of, name }) => of.id + 999 * (",)]}".indexOf(name) + 1), nameOf = (name, sign, rule) => notation().labels.get(name) ?? SENTENCES["next sign"][sign] ?? (rule >= 0 || /^(?:[A-Za-z]{2}|[Ā-ɏ])/.test(sign) ? "" : sign);
+  return [...new Set([...states].sort((a, b) => rank(a) - rank(b)).map((it) => nameOf(it.name, it.name.split("|")[0], it.rule)))].filter(Boolean).slice(0, 6);
 }
 
 /** Readings of a line with the name of its command put right. */
@@ -80,12 +79,13 @@ function readTyped(typed) {
   const { sure, repairs, isCut, why, stop } = readingsOf(line);
   // (a formula as the page writes it runs, though it is 0 by its sizes)
   const isWritten = (it, shown = computedBy(it.line, it.asked)) => [typedOf(it), shown, plainFormula(shown)].includes(line), areSeveral = (all) => new Set(all.map(keyOf)).size > 1;
-  const isSure = (it) => !it.isDoubtful && (!it.zero || isWritten(it));
+  // (what is doubtful, and 0 by its sizes, is hardly meant, but of a command)
+  const isSure = (it) => !it.isDoubtful && (!it.zero || isWritten(it)), isMeant = (it) => !it.zero || !it.isDoubtful || GRAMMAR.has(/^[a-z]*/.exec(line)[0]);
   const own = areSeveral(sure) ? sure.filter((it) => isWritten(it)) : [], meant = own.length > 0 ? own : sure;
   if (meant.length > 0 && !areSeveral(meant) && !isCut && meant.every(isSure)) return { line: meant[0].line, changes, asked: meant[0].asked };
-  if (sure.length > 0) return severalRead(line, changes, offered([...sure, ...(sure.every((it) => it.zero) ? repairs : [])]), isCut);
+  if (sure.some(isMeant)) return severalRead(line, changes, offered([...sure, ...(sure.every((it) => it.zero) ? repairs : [])]), isCut);
   if (isCut) return unread(line, changes, why || sentence("beyond"));
-  return notRead(line, changes, { offers: offered(repairs.length > 0 ? repairs : withOtherName(line)), stop });
+  return notRead(line, changes, { offers: offered(repairs.length > 0 ? repairs : withOtherName(line).filter(isMeant)), stop: sure.length > 0 ? { isZero: true } : stop });
 }
 
 /** A line that the page does not run: what it says of it, what it offers, and which part it marks. */
@@ -97,16 +97,17 @@ function severalRead(line, changes, offers, isCut) {
   if (count === 0) return unread(line, changes, sentence("beyond"));
   // (a command that is half typed is better refused by the program, with what it could mean)
   if (count === 1 && !isZero && GRAMMAR.has(textsOfWords(line)[0])) return { line, changes, unread: { offers } };
-  return unread(line, changes, sentence(isZero ? "zero by size" : isCut || count === 1 ? "one of several" : "several", { count }), offers);
+  const said = sentence(isZero ? "zero by size" : isCut || count === 1 ? "one of several" : "several", { count }), sizes = isZero ? offers.flatMap((it) => it.line.slice(5).split(" - ").map((list) => sumOf(list.split(" ")))) : [];
+  return unread(line, changes, sizes.length > 2 && sizes.every((it) => it === sizes[0]) ? `${SENTENCES.unknown[0][1]} ${said}` : said, offers);
 }
 
 /** A line without a reading: named as what it is, refused by the program if it begins with one of its commands or with no known sign, or with where it stops. */
 function notRead(line, changes, { offers, stop }) {
   const [first = ""] = textsOfWords(line), small = line.slice(0, 400).replace(/[A-Za-z]{3,}/g, (it) => it.toLowerCase()), isOwn = GRAMMAR.has(first);
-  const unknown = isOwn ? null : Object.values(SENTENCES.unknown).find(([form]) => new RegExp(form, "u").test(small));
+  const unknown = isOwn ? null : SENTENCES.unknown.find(([form]) => new RegExp(form, "u").test(small));
   if (unknown) return unread(line, changes, unknown[1], offers);
-  if (isOwn || !stop || stop.front.trim() === "") return { line, changes, unread: { offers } };
-  if (stop.isWhole) return unread(line, changes, sentence("senseless"), offers);
+  if (isOwn || !stop || stop.front?.trim() === "") return { line, changes, unread: { offers } };
+  if (stop.isWhole || stop.isZero) return unread(line, changes, sentence(stop.isZero ? "zero read" : "senseless"), offers);
   const front = stop.front.length > 36 ? `..${stop.front.slice(-34)}` : stop.front, expected = oneOf(stop.expected), word = stop.sign ? line.slice(stop.sign.at, stop.sign.end) : "";
   const near = !/^[A-Za-z]{4,20}$/.test(word) ? undefined : [...notation().words].find((it) => it !== word && distance(word.toLowerCase(), it) <= it.length / 4);
   const said = sentence(`${stop.sign ? "stops" : "is short"}${expected ? "" : " there"}`, { front, word: named(word), expected }) + (near ? ` ${sentence("near", { near })}` : "");
