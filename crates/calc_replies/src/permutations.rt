@@ -3,7 +3,8 @@ ghost use Rattle.sym_model.specs.Command as commands;
 ghost use Rattle.calc_words.specs.Commands.{KeepsLimits};
 ghost use Rattle.calc_replies.specs.Computed.{IsReplyTo};
 
-use crate::outcome::{Outcome, as_block};
+use crate::form::Form;
+use crate::outcome::{Outcome, answered, as_block};
 use calc_base::{NoMemory, SumFault};
 use expansion_printer::Answer;
 use perm_codes::Perm;
@@ -66,9 +67,8 @@ pub(crate) fn stanley(alloc: Global, rows: u16, perm: &Perm) -> Result<Outcome, 
     requires { KeepsLimits (commands.stanley rows perm.now) }
     ensures { IsReplyTo (commands.stanley rows perm.now) result }
 {
-    match stanley_expand::stanley(alloc, perm, rows) {
-        Ok(terms) => Ok(as_block(Answer::Product { terms })),
-        Err(SumFault::Large) => Ok(Outcome::Large),
-        Err(SumFault::NoMemory) => Err(NoMemory),
-    }
+    answered(
+        stanley_expand::stanley(alloc, perm, rows).map(|terms| Answer::Product { terms }),
+        Form::Block,
+    )
 }
