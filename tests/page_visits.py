@@ -426,6 +426,7 @@ ASKED = [
     ("coefficient of σ_{2} in σ_{2,1}*σ_{2,1} in QH*(Gr(2,4))", "the coefficient of q σ(2) in σ(2,1) * σ(2,1) in QH*(Gr(2,4)) = 1", ["1  q^1  (2)"]),
     ("the coefficient of σ_{(2)} in σ_{(2,1)} · σ_{(2,1)} in H*(Gr(2,4))", "the coefficient of σ(2) in σ(2,1) · σ(2,1) in H*(Gr(2,4)) = 0", []),
     ("K_{(2,1);(1,1,1)}", "K(2,1),(1,1,1) = 2", ["2  (1,1,1)"]),
+    ("𝔖_{132}^2 in Fl(3)", "S132 · S132 in H*(Fl(3)) = S231", ["1  (2,3,1)"]),
 ]
 
 
@@ -453,6 +454,11 @@ def first_reading(*where):
         visit.run("K_{2,11}")
         offers = visit.ask("const all = [...document.querySelectorAll('article')[0].querySelectorAll('.offers li')]; all[all.length - 1].querySelector('button').click(); await quiet(); return all.map((it) => it.textContent.includes('0 by its sizes'))")
         zero = visit.ask("return document.querySelector('article .asked').textContent")
+        # (what is not computed, where a line stops, and which offers are 0 are said while one types, too)
+        told = [visit.ask(typing.replace("c^{321}_{21,21}", it) + "return document.getElementById('preview').textContent") for it in ("g_{21,21,21}", "s_{21} ! s_{1}", "c^{321}_{21,2}")]
+        parts = ["Kronecker products and their coefficients are not computed here.", "“!” cannot come after it", "(0 by its sizes)"]
+        if not all(part in it for part, it in zip(parts, told)):
+            return str(told)
         return wrong((seen, "2 readings"), (first, ["coef 3 2 1 - 2 1 - 2 1", "2\n"]), (offers, [False, True]), (zero, "K(2),(11,) = 0"))
 
 

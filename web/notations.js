@@ -231,7 +231,7 @@ Term "an expression" = Factor
   | Term Power -> timesText  # h_3 e_2, 2 s_1
   | Term Scalar -> ! timesText  # h[2]^{2}3
 Sum "an expression" = Term
-  | Power Squared -> powerOf
+  | Term Squared -> powerOf
   | Minus Term -> written ""
   | Sum Sign Term -> written ""
 Basis "a basis" = Family
@@ -741,7 +741,7 @@ Class "a class" = σ|s Index
   | c ~_ ~NUM ~( Q ) -> list  # Chern classes of the quotient, and of the dual of the sub-bundle
   | c ~_ ~NUM ~( S ~^ ~Ast ) -> copies "1"
 ClassPower = Class -> list
-  | σ IndexPower -> list
+  | σ IndexPower -> ? list
   | Class Exp -> listPower
 Classes = ClassPower
   | Classes ·|⊗|∩ ClassPower -> addAll
@@ -962,7 +962,8 @@ Question = Fused for|of|in|,? Lie Level -> fusionFor
 Operand = Lam -> operand list
   | Letter
 Letter = TypedLetter -> operand list
-TypedLetter = s|σ Index|IndexPower -> typedWith index
+TypedLetter = s|σ Index -> typedWith index
+  | s|σ IndexPower -> ? typedWith index  # or a power
 Times = Lam Exp -> operandPower  # (2,1)^2
   | s|σ Index Exp -> operandPower
 Any "a list" = Operand|Times
