@@ -34,7 +34,7 @@ use Rattle.sym_model.specs.Outcome.{Answers, Expands, PrintsAnswer, IsLineOutcom
 use Rattle.sym_model.specs.RefusalText.{refusal_line, offence_line, large_line}
 use Rattle.sym_model.specs.Target.{Meets}
 use Rattle.calc_replies.specs.declared.outcome.Outcome.{Outcome}
-use Rattle.calc_replies.specs.declared.outcome.Outcome.TheVariants.{Answered, Refused, Large, Told}
+use Rattle.calc_replies.specs.declared.outcome.Outcome.TheVariants.{Answered, Written, Refused, Large, Told}
 use Rattle.calc_replies.specs.Computed.{Computes, AreRefused, Accepts, Refuses, GoesWrong, Tells, lines_text, text_of, HasBlock, refusal_status, status_for}
 use Rattle.calc_app.specs.Top.{IsOutcome, IsInput, IsFrontOf, RunsLines, Says, SaysOver, status_of, PutsPrefix, Leaves, PrintsAnswerTo, WasCutOff, IsAccepted, IsRefused, AnswersWords}
 
@@ -49,14 +49,13 @@ prints command answer form meets asked printable = record {
   printed = ap (λ (f : PrintedForm). answer_text_in f (plain_answer answer)) asked;
 }
 
-answers_block : (command : Command) (answer : Answer) (form : Form) → (MustBeLarge command → ⊥) → Meets command (plain_answer answer)
-    → plain_form form ≡ printed_form command → IsPrintable (plain_answer answer) → Answers command (answer_text_in (plain_form form) (plain_answer answer)) done
-answers_block command answer form small meets asked printable = by (kind command)
+answers_text : (command : Command) (text : List ℕ) → (MustBeLarge command → ⊥) → PrintsAnswer command text → Answers command text done
+answers_text command text small prints = by (kind command)
   where
-    by : NamesExpansion command ⊎ TellsLines command ⊎ RunsOthers command → Answers command (answer_text_in (plain_form form) (plain_answer answer)) done
-    by (inl k) = k.answers _ _ (inl (small, prints command answer form meets asked printable, refl))
-    by (inr (inl k)) = absurd (k.unnamed (plain_answer answer) meets)
-    by (inr (inr k)) = absurd (k.unnamed (plain_answer answer) meets)
+    by : NamesExpansion command ⊎ TellsLines command ⊎ RunsOthers command → Answers command text done
+    by (inl k) = k.answers _ _ (inl (small, prints, refl))
+    by (inr (inl k)) = absurd (k.unnamed prints.answer prints.meets)
+    by (inr (inr k)) = absurd (k.unnamed prints.answer prints.meets)
 
 answers_large : (command : Command) → MayBeLarge command → Answers command large_line past
 answers_large command large = by (kind command)
@@ -113,8 +112,14 @@ has_outcome entries words (Answered answer form) computes block = record {
   outcome = inr (inr (
     computes.command,
     computes.spelled,
-    answers_block computes.command answer form computes.reply.0 computes.reply.1 computes.reply.2 block,
+    answers_text computes.command (answer_text_in (plain_form form) (plain_answer answer)) computes.reply.0
+        (prints computes.command answer form computes.reply.1 computes.reply.2 block),
   ));
+  same = refl;
+}
+has_outcome entries words (Written text) computes block = record {
+  ending = done;
+  outcome = inr (inr (computes.command, computes.spelled, answers_text computes.command text.bytes computes.reply.0 computes.reply.1));
   same = refl;
 }
 has_outcome entries words (Refused reason) computes block = offending entries words reason computes
@@ -148,6 +153,7 @@ alone words input text ending (inr (inr comes)) = inr (inr (comes.0, comes.1, an
 
 no_some_refused : (outcome : Outcome) → status_for outcome ≡ status.SomeRefused → ⊥
 no_some_refused (Answered answer form) is = cc
+no_some_refused (Written text) is = cc
 no_some_refused (Refused (fault.Syntax at)) is = cc
 no_some_refused (Refused (fault.Literal at)) is = cc
 no_some_refused (Refused (fault.Range at)) is = cc
@@ -275,6 +281,7 @@ headline old new source now Untouched words answer leaves ended before told =
 
 pub accepted : (command : Command) (outcome : Outcome) → Accepts command (Ok outcome) → IsAccepted command (status_for outcome)
 accepted command (Answered answer form) accepts = inl refl
+accepted command (Written text) accepts = inl refl
 accepted command (Refused reason) accepts = absurd accepts
 accepted command Large accepts = inr (inl (refl, accepts))
 accepted command (Told lines) accepts = inl refl
@@ -293,6 +300,7 @@ names offence fault.NoMemory is = absurd is
 pub refuses_offence : (IsPut : List ℕ → Type 0) (offence : Offence) (outcome : Outcome) → Refuses offence (Ok outcome) → IsPut (text_of outcome)
     → IsRefused (ending_of offence.2) (IsPut (offence_line offence)) (status_for outcome)
 refuses_offence IsPut offence (Answered answer form) refuses put = absurd refuses
+refuses_offence IsPut offence (Written text) refuses put = absurd refuses
 refuses_offence IsPut offence (Refused reason) refuses put =
     let both = names offence reason refuses in record { ends = inl both.0; puts = λ ended. subst IsPut both.1 put }
 refuses_offence IsPut offence Large refuses put = absurd refuses
@@ -301,6 +309,7 @@ refuses_offence IsPut offence (Told lines) refuses put = absurd refuses
 pub refuses_place : (IsPut : List ℕ → Type 0) (word byte : ℕ) (outcome : Outcome) → GoesWrong word byte (Ok outcome) → IsPut (text_of outcome)
     → IsRefused syntax (IsPut (refusal_line (codes "Syntax") word byte)) (status_for outcome)
 refuses_place IsPut word byte (Answered answer form) wrong put = absurd wrong
+refuses_place IsPut word byte (Written text) wrong put = absurd wrong
 refuses_place IsPut word byte (Refused reason) wrong put =
     record { ends = inl (ap refusal_status wrong); puts = λ ended. subst IsPut (ap refusal_text wrong) put }
 refuses_place IsPut word byte Large wrong put = absurd wrong

@@ -7,3 +7,4 @@ pub mod Expansions
 pub mod FewInversions
 pub mod GridLines
 pub mod Listings
+mod WrittenText

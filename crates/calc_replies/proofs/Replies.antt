@@ -12,7 +12,7 @@ use Rattle.sym_model.specs.Grammar.{all_entries}
 use Rattle.sym_model.specs.Outcome.{MayBeLarge}
 use Rattle.calc_language.specs.Reading.{IsFaultOf}
 use Rattle.calc_replies.specs.declared.outcome.Outcome.{Outcome}
-use Rattle.calc_replies.specs.declared.outcome.Outcome.TheVariants.{Answered, Refused, Large, Told}
+use Rattle.calc_replies.specs.declared.outcome.Outcome.TheVariants.{Answered, Written, Refused, Large, Told}
 use Rattle.calc_replies.specs.declared.outcome.Task.{Task}
 use Rattle.calc_replies.specs.declared.outcome.Task.TheVariants.{Lines, Workload, Put}
 use Rattle.calc_replies.specs.Computed.{IsReplyTo, Computes, Accepts, IsTaskOf, IsTaskFor, AcceptsTask}
@@ -20,6 +20,7 @@ use Rattle.calc_replies.specs.Computed.{IsReplyTo, Computes, Accepts, IsTaskOf, 
 pub computes_reply : (entries : List Entry) (words : List (List ℕ)) (command : Command) (result : Result Outcome NoMemory)
     → SpellsWithoutOffence entries words command → IsReplyTo command result → Computes entries words result
 computes_reply entries words command (Ok (Answered block form)) spelled reply = record { command = command; spelled = spelled; reply = reply }
+computes_reply entries words command (Ok (Written text)) spelled reply = record { command = command; spelled = spelled; reply = reply }
 computes_reply entries words command (Ok (Refused reason)) spelled reply = absurd reply
 computes_reply entries words command (Ok Large) spelled reply = record { command = command; spelled = spelled; reply = reply }
 computes_reply entries words command (Ok (Told lines)) spelled reply = record { command = command; spelled = spelled; reply = reply }
@@ -28,6 +29,7 @@ computes_reply entries words command (Err e) spelled reply = tt
 pub accepts_reply : (command : Command) (result : Result Outcome NoMemory) (other : Command) → IsReplyTo command result
     → command ≡ other → Accepts other result
 accepts_reply command (Ok (Answered block form)) other reply same = tt
+accepts_reply command (Ok (Written text)) other reply same = tt
 accepts_reply command (Ok (Refused reason)) other reply same = reply
 accepts_reply command (Ok Large) other reply same = subst MayBeLarge same reply
 accepts_reply command (Ok (Told lines)) other reply same = tt
@@ -43,6 +45,7 @@ task_reply words command (Err e) spelled task = tt
 
 no_reply : (outcome : Outcome) → IsReplyTo batch (Ok outcome) → ⊥
 no_reply (Answered answer form) reply = reply.1
+no_reply (Written text) reply = reply.1.meets
 no_reply (Refused reason) reply = reply
 no_reply Large (inl large) = large.1
 no_reply Large (inr large) = large.1

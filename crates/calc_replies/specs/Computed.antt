@@ -20,7 +20,7 @@ use Rattle.sym_model.specs.CommandOffence.{Offence}
 use Rattle.sym_model.specs.Entry.{Entry, SpellsWithoutOffence}
 use Rattle.sym_model.specs.Insertion.{insertion_pair}
 use Rattle.sym_model.specs.Outcome.{MustBeLarge, MayBeLarge, readings_after, PrintsWord}
-use Rattle.sym_model.specs.Outcome.{PrintsRectified}
+use Rattle.sym_model.specs.Outcome.{PrintsRectified, PrintsAnswer}
 use Rattle.sym_model.specs.TableauText.{tableau_line, pair_text, word_line, readings_text}
 use Rattle.sym_model.specs.TableauText.{grid_text}
 use Rattle.sym_model.specs.RefusalText.{large_line}
@@ -36,7 +36,7 @@ use Rattle.sym_model.specs.Grammar.{all_entries}
 use Rattle.calc_replies.specs.declared.outcome.Task.{Task}
 use Rattle.calc_replies.specs.declared.outcome.Task.TheVariants.{Lines, Workload, Put}
 use Rattle.calc_replies.specs.declared.outcome.Outcome.{Outcome}
-use Rattle.calc_replies.specs.declared.outcome.Outcome.TheVariants.{Answered, Refused, Large, Told}
+use Rattle.calc_replies.specs.declared.outcome.Outcome.TheVariants.{Answered, Written, Refused, Large, Told}
 
 -- the text of the answer to `tab`: a line for each tableau that is still to be listed, or the line 0 if there is no
 -- such tableau
@@ -70,13 +70,15 @@ reply_of (Ok answer) form = Ok (Answered answer form)
 reply_of (Err sums.Large) form = Ok Large
 reply_of (Err sums.NoMemory) form = Err (record {})
 
--- The outcome of a command: either the answer to the command in the form that the command asks for, and the command
--- need not be refused as too large (`MustBeLarge`); or `Large`, and the command may be refused as too large
+-- The outcome of a command: either the answer to the command in the form that the command asks for, or its text, and the
+-- command need not be refused as too large (`MustBeLarge`); or `Large`, and the command may be refused as too large
 -- (`MayBeLarge`). Nothing is required if memory runs out.
 abbrev pub IsReplyTo : PlainCommand → Result Outcome NoMemory → Type 0
 IsReplyTo command (Ok (Answered answer form)) =
     (MustBeLarge command → ⊥) × Meets command (plain_answer answer)
     × (plain_form form ≡ printed_form command)
+IsReplyTo command (Ok (Written text)) =
+    (MustBeLarge command → ⊥) × PrintsAnswer command text.bytes
 IsReplyTo command (Ok (Refused fault)) = ⊥
 IsReplyTo command (Ok Large) = MayBeLarge command
 IsReplyTo command (Ok (Told lines)) = Tells command (lines_text lines)
@@ -100,6 +102,7 @@ AreRefused entries words reason = IsRefusal entries words reason × (reason ≢ 
 abbrev pub Computes : List Entry → List (List ℕ) → Result Outcome NoMemory → Type 0
 Computes entries words (Ok (Answered answer form)) =
     RepliesTo entries words (Ok (Answered answer form))
+Computes entries words (Ok (Written text)) = RepliesTo entries words (Ok (Written text))
 Computes entries words (Ok (Refused reason)) = AreRefused entries words reason
 Computes entries words (Ok Large) = RepliesTo entries words (Ok Large)
 Computes entries words (Ok (Told lines)) = RepliesTo entries words (Ok (Told lines))
@@ -109,6 +112,7 @@ Computes entries words (Err e) = Unit {0}
 -- command may be refused as too large
 abbrev pub Accepts : PlainCommand → Result Outcome NoMemory → Type 0
 Accepts command (Ok (Answered answer form)) = Unit {0}
+Accepts command (Ok (Written text)) = Unit {0}
 Accepts command (Ok (Refused reason)) = ⊥
 Accepts command (Ok Large) = MayBeLarge command
 Accepts command (Ok (Told lines)) = Unit {0}
@@ -117,6 +121,7 @@ Accepts command (Err e) = Unit {0}
 -- the outcome of words whose first error is `offence`: the refusal that names this error, unless memory runs out
 abbrev pub Refuses : Offence → Result Outcome NoMemory → Type 0
 Refuses offence (Ok (Answered answer form)) = ⊥
+Refuses offence (Ok (Written text)) = ⊥
 Refuses offence (Ok (Refused reason)) = IsFaultOf offence reason
 Refuses offence (Ok Large) = ⊥
 Refuses offence (Ok (Told lines)) = ⊥
@@ -126,6 +131,7 @@ Refuses offence (Err e) = Unit {0}
 -- this place, unless memory runs out
 abbrev pub GoesWrong : ℕ → ℕ → Result Outcome NoMemory → Type 0
 GoesWrong word byte (Ok (Answered answer form)) = ⊥
+GoesWrong word byte (Ok (Written text)) = ⊥
 GoesWrong word byte (Ok (Refused reason)) =
     reason ≡ fault.Syntax (record { word = word; byte = byte })
 GoesWrong word byte (Ok Large) = ⊥
@@ -184,6 +190,7 @@ TaskGoesWrong word byte (Err e) = Unit {0}
 -- the text of an outcome: the answer in its form, or the line of the refusal
 abbrev pub text_of : Outcome → List ℕ
 text_of (Answered answer form) = answer_text_in (plain_form form) (plain_answer answer)
+text_of (Written text) = text.bytes
 text_of (Refused reason) = refusal_text reason
 text_of Large = large_line
 text_of (Told lines) = lines_text lines
@@ -191,13 +198,15 @@ text_of (Told lines) = lines_text lines
 -- the outcome has a text: it is not a refusal for lack of memory
 abbrev pub HasText : Outcome → Type 0
 HasText (Answered answer form) = Unit {0}
+HasText (Written text) = Unit {0}
 HasText (Refused reason) = reason ≢ fault.NoMemory
 HasText Large = Unit {0}
 HasText (Told lines) = Unit {0}
 
--- if the outcome is an answer, the answer is printable
+-- if the outcome is an answer whose terms are kept, the answer is printable
 abbrev pub HasBlock : Outcome → Type 0
 HasBlock (Answered answer form) = IsPrintable (plain_answer answer)
+HasBlock (Written text) = Unit {0}
 HasBlock (Refused reason) = Unit {0}
 HasBlock Large = Unit {0}
 HasBlock (Told lines) = Unit {0}
@@ -213,6 +222,7 @@ refusal_status fault.NoMemory = status.NoMemory
 -- the status with which a run ends after the outcome is written, if no call of the sink fails
 abbrev pub status_for : Outcome → Status
 status_for (Answered answer form) = status.Done
+status_for (Written text) = status.Done
 status_for (Refused reason) = refusal_status reason
 status_for Large = status.Past
 status_for (Told lines) = status.Done

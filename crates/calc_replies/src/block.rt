@@ -8,7 +8,7 @@ ghost use Rattle.calc_replies.specs.Computed.{status_for};
 use crate::form::put_answer;
 use crate::outcome::Outcome;
 use crate::tableau_answer::put_told;
-use calc_base::{Sink, Status, WordsFault};
+use calc_base::{Sink, Status, WordsFault, put_if};
 use expansion_printer::{print_large, print_refusal};
 
 /// Writes the text `front` to the sink, followed by the text of the outcome (`text_of`): its answer
@@ -21,6 +21,7 @@ pub fn put_text<K: Sink>(front: &[u8], outcome: &mut Outcome, sink: &mut K) -> b
 {
     match outcome {
         Outcome::Answered { answer, form } => put_answer(front, answer, *form, sink),
+        Outcome::Written { text } => put_if(put_front(front, sink), sink, text.bytes()),
         Outcome::Refused { fault } => put_front(front, sink) && print_refusal(fault, sink).is_ok(),
         Outcome::Large => put_front(front, sink) && print_large(sink).is_ok(),
         Outcome::Told { lines } => put_front(front, sink) && put_told(lines, sink),
@@ -40,7 +41,7 @@ pub fn status_if_put(outcome: &Outcome) -> Status
     ensures { result ≡ status_for outcome.now }
 {
     match outcome {
-        Outcome::Answered { .. } | Outcome::Told { .. } => Status::Done,
+        Outcome::Answered { .. } | Outcome::Written { .. } | Outcome::Told { .. } => Status::Done,
         Outcome::Refused { fault } => refused(*fault),
         Outcome::Large => Status::Past,
     }

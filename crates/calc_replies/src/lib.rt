@@ -23,6 +23,7 @@ mod permutations;
 mod products;
 mod reductions;
 mod tableau_answer;
+mod written;
 
 pub use block::{put_text, status_if_put};
 pub use form::Form;

@@ -16,7 +16,7 @@ use crate::expanding::expanded;
 use crate::form::Form;
 use crate::tableau_answer::TableauAnswer;
 use crate::{grids, insertion, listing, permutations, products, reductions};
-use calc_base::{NoMemory, SumFault, WordsFault};
+use calc_base::{GrowingSink, NoMemory, SumFault, WordsFault};
 use calc_language::{Command, read_words};
 use expansion_printer::Answer;
 use schubert_transition::Memo;
@@ -26,6 +26,8 @@ use std::alloc::Global;
 pub enum Outcome {
     /// The command is answered: the whole answer, and the form in which it is printed.
     Answered { answer: Answer, form: Form },
+    /// The command is answered: the text of the answer in its form.
+    Written { text: GrowingSink },
     /// The words are refused, for the reason `fault`, which is not that memory ran out.
     Refused { fault: WordsFault },
     /// The command is refused, since its answer is too large.
@@ -40,6 +42,7 @@ impl Drop for Outcome {
     fn drop(self) {
         match self {
             Outcome::Answered { answer, form: _ } => drop(answer),
+            Outcome::Written { text } => drop(text),
             Outcome::Refused { fault: _ } => {}
             Outcome::Large => {}
             Outcome::Told { lines } => drop(lines),

@@ -5,6 +5,7 @@ ghost use Rattle.calc_replies.specs.Computed.{IsReplyTo};
 
 use crate::form::{Form, asked_form};
 use crate::outcome::{Outcome, answered, as_block};
+use crate::written::written_product;
 use calc_base::{Basis, NoMemory, SumFault};
 use expansion_printer::Answer;
 use partitions::{Factors, Partition};
@@ -12,8 +13,27 @@ use schur_products::mult_all;
 use std::alloc::Global;
 
 /// The outcome of `mult`: the product of Schur functions, or `Large` if it is too large. If `rows`
-/// is given, the product is taken in `rows` variables.
+/// is given, the product is taken in `rows` variables. Only the text of the terms is kept if they
+/// can be listed one after another, and not as terms.
 pub(crate) fn mult(
+    alloc: Global,
+    rows: Option<u16>,
+    one_line: bool,
+    factors: &Factors,
+) -> Result<Outcome, NoMemory>
+    requires { KeepsLimits (commands.mult rows one_line factors.now) }
+    ensures { IsReplyTo (commands.mult rows one_line factors.now) result }
+{
+    if rows.is_none() && !one_line {
+        if let Some(outcome) = written_product(alloc, factors)? {
+            return Ok(outcome);
+        }
+    }
+    listed_product(alloc, rows, one_line, factors)
+}
+
+/// The outcome of `mult` with the terms of the product, as in `mult`.
+fn listed_product(
     alloc: Global,
     rows: Option<u16>,
     one_line: bool,

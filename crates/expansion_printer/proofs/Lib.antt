@@ -6,3 +6,4 @@ pub mod ReadingCells
 pub mod TableauRows
 pub mod LineTexts
 pub mod GatheringLaws
+pub mod CollectedLines

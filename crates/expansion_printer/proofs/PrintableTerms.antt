@@ -41,18 +41,22 @@ module _ {L : Type 0} where
       (test_from_fits t.1 (All-head (λ (u : L × ℤ). FitsSigned w128 u.1) t terms all)) refl)
       (printable-whole terms (All-tail (λ (u : L × ℤ). FitsSigned w128 u.1) t terms all))
 
-  -- a canonical list with integers of 128 bits as coefficients is in order, has only valid terms (`are_proper`), and can be printed
+  -- a canonical list with integers as coefficients is in order and has only valid terms (`are_proper`)
+  pub whole-canonical : (order : L → L → Ordering) (is_label : L → Bool) (terms : List (L × ℤ))
+      → is_canonical_list order is_label whole terms ≡ true
+      → (is_ordered order (as_fractions terms) && are_proper false is_label (as_fractions terms)) ≡ true
+  whole-canonical order is_label terms h =
+      let listed = canonical-fractions is_label order (as_fractions terms) in
+      ap (λ b. is_ordered order (as_fractions terms) && b) (proper-whole is_label terms)
+      ∙ sym listed ∙ canonical_values whole order is_label terms ∙ h
+
+  -- if its coefficients have 128 bits, it can also be printed
   pub whole-printable : (order : L → L → Ordering) (is_label : L → Bool) (terms : List (L × ℤ))
       → All (λ (t : L × ℤ). FitsSigned w128 t.1) terms
       → is_canonical_list order is_label whole terms ≡ true
       → ((is_ordered order (as_fractions terms) && are_proper false is_label (as_fractions terms))
       ≡ true) × (is_printable (as_fractions terms) ≡ true)
-  whole-printable order is_label terms all h =
-      let listed = canonical-fractions is_label order (as_fractions terms) in (
-        ap (λ b. is_ordered order (as_fractions terms) && b) (proper-whole is_label terms)
-            ∙ sym listed ∙ canonical_values whole order is_label terms ∙ h,
-        printable-whole terms all,
-      )
+  whole-printable order is_label terms all h = (whole-canonical order is_label terms h, printable-whole terms all)
 
   printable-fractions : (terms : Terms L) → All (λ (t : L × Fraction). IsFraction t.1) terms
       → is_printable terms ≡ true

@@ -4,3 +4,4 @@ pub mod Refusal
 pub mod ReadingPlaces
 pub mod SignedTerms
 pub mod Gathering
+pub mod Blocks

@@ -98,7 +98,12 @@ fn put_terms<L: Named, R: Ratio, K: Sink>(terms: &Terms<L, R>, text: &mut TextBu
 }
 
 /// Writes the line of a term: its coefficient and its label.
-fn put_line<L: Named, R: Ratio, K: Sink>(label: &L, c: R, text: &mut TextBuffer, sink: &mut K)
+pub(crate) fn put_line<L: Named, R: Ratio, K: Sink>(
+    label: &L,
+    c: R,
+    text: &mut TextBuffer,
+    sink: &mut K,
+)
     ensures goes { Gathers text.old (K.seen sink.old) text.new (K.seen sink.new)
         (line_by L.line_rules (label.now, R.value c)) }
     ensures held { R.is_held c }

@@ -1,6 +1,6 @@
 //! A buffer for text that is to be written to a sink.
 ghost use Rattle.std.specs.Prelude.{◌≡◌, ◌+◌, ◌≤◌, ◌↔◌, [], ◌∷◌, ◌++◌, length, true, false, IsTrue};
-ghost use Rattle.std.specs.Prelude.{is_ok};
+ghost use Rattle.std.specs.Prelude.{is_ok, not};
 ghost use Rattle.calc_base.specs.Puts.{Puts};
 ghost use Rattle.expansion_printer.specs.Gathering.{Waiting, Gathers};
 
@@ -57,6 +57,20 @@ impl TextBuffer {
         }
         self.flush(sink);
         self.put_first(piece, sink);
+    }
+
+    /// Whether no byte waits in the buffer.
+    pub(crate) fn is_empty(&self) -> bool
+        ensures { IsTrue result ↔ (self.now.bytes ≡ []) }
+    {
+        self.bytes.is_empty()
+    }
+
+    /// Whether a write has failed.
+    pub(crate) fn has_failed(&self) -> bool
+        ensures { result ≡ not self.now.well }
+    {
+        !self.well
     }
 
     /// Writes the bytes in the buffer, and returns `SinkFault` if and only if a write has failed.

@@ -9,3 +9,5 @@ mod Listed
 mod ListedTerms
 mod RuleWays
 mod RuleTerms
+mod LabelOrder
+mod ListedProducts

@@ -71,14 +71,14 @@ module _ (N : ℕ) (f count : List ℕ → ℕ) (c : AreCounted N f count) where
   listing = terms_below 256 N (λ label. at_most_cap (f label))
 
   -- what a listed term is
-  record IsTerm (t : List ℕ × ℕ) : Type 0 where
-    partition : IsPartition (without_last_zeros t.0)
-    short : rows (without_last_zeros t.0) ≤ N
-    padded : t.0 ≡ resize N (without_last_zeros t.0)
-    value : t.1 ≡ at_most_cap (count (without_last_zeros t.0))
-    some : 0 < t.1
+  pub record IsTerm (t : List ℕ × ℕ) : Type 0 where
+    pub partition : IsPartition (without_last_zeros t.0)
+    pub short : rows (without_last_zeros t.0) ≤ N
+    pub padded : t.0 ≡ resize N (without_last_zeros t.0)
+    pub value : t.1 ≡ at_most_cap (count (without_last_zeros t.0))
+    pub some : 0 < t.1
 
-  term_tells : (t : List ℕ × ℕ) → Among t listing → IsTerm t
+  pub term_tells : (t : List ℕ × ℕ) → Among t listing → IsTerm t
   term_tells t m =
       let l = listed_tells 256 N (λ label. at_most_cap (f label)) t m in
       let s = l.some in

@@ -21,6 +21,8 @@
 
 mod lattice_row;
 mod lattice_rows;
+mod product_lister;
 mod product_terms;
 
+pub use product_lister::ProductLister;
 pub use product_terms::product;

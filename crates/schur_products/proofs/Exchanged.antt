@@ -6,6 +6,7 @@ use Rattle.sym_model.specs.GoodTableau.{product_count}
 use Rattle.sym_model.specs.WholeTerms.{WholeTerms}
 use Rattle.alternant_laws.proofs.CountedTerms.{product_counts_stable}
 use Rattle.schur_laws.proofs.ProductCounts.{product_exchanged}
+use Rattle.lattice_rows.specs.ListedProduct.{ListsProduct}
 use Rattle.lr_product.specs.Counts.{HasCounts, IsPastSomewhere}
 
 swapped : (λ' μ ν : List ℕ) → IsPartition λ' → IsPartition μ → IsPartition ν → rows ν ≤ rows μ + rows λ'
@@ -38,6 +39,15 @@ past_swapped λ' μ p q past =
     let e = swapped λ' μ past.parts p q past.partition (omega arith) in
     let l = past.past in
     record { parts = past.parts; partition = past.partition; within = omega arith; past = omega arith }
+
+pub lists_swapped : (λ' μ : List ℕ) (terms : WholeTerms) → IsPartition λ' → IsPartition μ
+    → ListsProduct (rows λ' + rows μ) λ' μ terms → ListsProduct (rows μ + rows λ') μ λ' terms
+lists_swapped λ' μ terms p q h = record {
+  canonical = h.canonical;
+  counts = λ f. counts_swapped λ' μ terms p q (h.counts f);
+  fits = λ f. fits_swapped λ' μ p q (h.fits f);
+  past = λ f. past_swapped λ' μ p q (h.past f);
+}
 
 pub if_given : {T E : Type 0} {P Q : T → Type 0} (r : Result (Option T) E) → IfOk r (λ o. IfSome o P) → ((x : T) → P x → Q x) → IfOk r (λ o. IfSome o Q)
 if_given (Ok (Some x)) h f = f x h

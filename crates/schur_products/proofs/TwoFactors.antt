@@ -7,6 +7,8 @@ use Rattle.sym_model.specs.WholeTerms.{WholeTerms, as_fractions}
 use Rattle.sym_model.specs.Products.{ExpandsInSchurs, schur_product}
 use Rattle.sym_model.specs.PastLimit.{HasPast, IsCoefficientOfProduct}
 use Rattle.lr_product.specs.Counts.{HasCounts, IsPastSomewhere}
+use Rattle.lattice_rows.specs.ListedProduct.{ListsProduct}
+use Rattle.schur_products.specs.ListedTerms.{ListsProductOf}
 use Rattle.lr_product.proofs.GoodCounts.{mult_answers, mult_fits, mult_past}
 use Rattle.partitions.specs.FactorList.{AreFactors}
 
@@ -49,3 +51,12 @@ pub fits_given : (given : Option ℕ) (factors : List (List ℕ)) (left right : 
     → IfSome o (λ l. (parts : List ℕ) → IsPartition parts → rows parts ≤ rows left + rows right → product_count (rows left + rows right) left right parts < 2 ^ 127) → HasPast (IsCoefficientOfProduct given factors) → ⊥
 fits_given given factors left right None terms e t is small = absurd (cc)
 fits_given given factors left right (Some l) terms e t is small = fits_two given factors left right e t small
+
+pub lists_two : (factors : List (List ℕ)) (left right : List ℕ) (terms : WholeTerms) → AreTwo factors left right → ListsProduct (rows left + rows right) left right terms → ListsProductOf factors terms
+lists_two factors left right terms t h = record {
+  canonical = h.canonical;
+  meets = λ p. subst (λ xs. ExpandsInSchurs None (schur_product xs) (as_fractions terms)) (sym t.are)
+      (mult_answers None (rows left + rows right) left right terms refl t.left_partition t.right_partition (h.counts p));
+  fits = λ p. fits_two None factors left right refl t (h.fits p);
+  past = λ p. past_two None factors left right refl t (h.past p);
+}

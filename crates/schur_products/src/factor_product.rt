@@ -64,7 +64,7 @@ fn mult_everywhere(alloc: Global, factors: &Factors) -> Result<Terms<Partition, 
 }
 
 /// The factor at the index `at`.
-fn factor_at(factors: &Factors, at: usize) -> &Partition
+pub(crate) fn factor_at(factors: &Factors, at: usize) -> &Partition
     requires { at < length factors.now }
     ensures { slice_get factors.now at ≡ Some result.now }
 {

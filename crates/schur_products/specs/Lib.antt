@@ -1,0 +1,2 @@
+-- The lists of terms that the contracts of `schur_products` refer to.
+pub mod ListedTerms
