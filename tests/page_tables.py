@@ -123,6 +123,7 @@ COPIES = [
     ("schubmult 10 1 2 3 4 5 6 7 8 9 - 1", "Copy LaTeX", "\\mathfrak{S}_{10,1,2,3,4,5,6,7,8,9} \\cdot \\mathfrak{S}_{1} = \\mathfrak{S}_{10,1,2,3,4,5,6,7,8,9}"),
     ("unrsk 1 12 - 1 2", "Copy CSV", "letter\r\n1\r\n12\r\n"),
     ("mult 12 -", "Copy LaTeX", "s_{(12)} \\cdot s_{\\emptyset} = s_{(12)}"),
+    ("σ_{1} σ_{1} in Gr(2,4)", "Copy the value as LaTeX", "\\sigma_{(1)} \\cdot \\sigma_{(1)}\\ \\text{in}\\ H^{\\ast}(\\text{Gr}(2,4)) = \\sigma_{(2)} + \\sigma_{(1,1)}"),
     ("rsk 3 1 2", "Copy LaTeX", "% \\usepackage{ytableau}\nP = \\begin{ytableau} 1 & 2 \\\\ 3 \\end{ytableau},\n\\quad Q = \\begin{ytableau} 1 & 3 \\\\ 2 \\end{ytableau}\n\\quad \\text{for the word}\\ (3, 1, 2)"),
     ("rsk 3 1 2", "Copy for Sage", "P = Tableau([[1,2],[3]])\nQ = Tableau([[1,3],[2]])"),
     ("rsk 3 1 2", "Copy TSV", "number\ttableau\nP\t[[1,2],[3]]\nQ\t[[1,3],[2]]\n"),

@@ -61,10 +61,13 @@ function latexMath(nodes) {
     const isOpen = /\\[a-z]+$/.test(base + sub + sup) && next && /^[A-Za-z]/.test(next.text);
     return base + sub + sup + (isOpen ? " " : "");
   });
-  return texts.join("").replace(/\}\\ (?=\\text\{)/g, "}~").replace(/\}~\\text\{/g, " ");
+  // (words beside each other are one text)
+  return texts.join("").replace(/(?<=\\text\{[^{}]*)\}\\ \\text\{/g, " ");
 }
 
-const latexOfFormula = (text) => latexMath(mathOf(text));
+const latexOfFormula = (text) => latexMath(mathOf(raisedStar(text)));
+/** The star of a cohomology ring, set high. */
+const raisedStar = (text) => text.replace(/H\*(?=\()/g, "H^{*}");
 
 // ---- as MathML
 
@@ -106,7 +109,7 @@ function plainRow(nodes) {
 /** A text of the notation as words and pieces of MathML, with a place to break a line between them. */
 function mathNodes(text) {
   if (text.length > LONGEST_MATH) return formula(text);
-  const nodes = mathOf(text.replace(/H\*(?=\()/g, "H^{*}")), made = [];
+  const nodes = mathOf(raisedStar(text)), made = [];
   let row = [], depth = 0;
   const flush = () => {
     if (row.length > 0) made.push(typedMath(row).length > LONGEST_PIECE ? element("span", {}, ...plainRow(row)) : element("math", {}, ...mathMLRow(row)));

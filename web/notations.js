@@ -700,8 +700,8 @@ CPower = C Degree
 GrOf "Gr(k,n)" = Gr ~_ ~{ NUM , NUM } -> grassmannian
   | Gr ( NUM , NUM ) -> grOrLines  # Gr(1,3): a plane, or the lines of P^3
   | Gr|G ( NUM , CPower ) -> grassmannian  # Gr(2,C^5)
-  | Gr|G ~_ ~NUM ( CPower ) -> grassmannian
-  | Gr ~_ ~NUM ( NUM ) -> grassmannian
+  | Gr|G Lowered ( CPower ) -> grassmannian
+  | Gr Lowered ( NUM ) -> grassmannian
   | grassmannian Gr? ( NUM , NUM ) -> grOrLines
   | 𝔾 ( NUM , NUM ) -> subspaces  # of projective subspaces, or as Gr
   | grassmannian? G|𝔾 ( NUM , NUM ) -> grassmannian
@@ -844,13 +844,15 @@ Irreducibles = IntoSum irreducible|irreducibles|irreps representations|component
 Tensor = ListFactor|Tensor ⊗ ListFactor -> addAll
   | Indexed ⊗ Indexed -> list
   | Tensor ⊗ Indexed -> add
-Functor "a functor" = sym Degree -> functor h
+Functor "a functor" = Powers
+  | Schur_
+Schur_ = S Above|Index -> atom s 2
+Powers = sym Degree -> functor h
   | symmetric square of? -> functor h "2"
   | exterior square of? -> functor e "2"
   | symmetric cube of? -> functor h "3"
   | exterior cube of? -> functor e "3"
   | Λ Degree -> functor e
-  | S Above|Index -> atom s 2
 V_ = V -> ""
   | C ~^ ~n -> ""
   | ( V ) -> ""
@@ -897,7 +899,8 @@ Into = ForV -> ""
 Product_ = product of? -> ""
   | TensorOf -> ""
 Littlewood = ListFactor ⊗ ListFactor -> littlewood
-FunctorOf = Functor of Functor|Atom -> composed
+FunctorOf = Functor of Powers|Atom -> composed
+  | Functor of Schur_ -> ? composed  # or of a Specht module
 ModulePair = Module By Module -> timesText
 Restrict = restriction|restrict|res of? specht? module? -> ""
 Sn = S Lowered
