@@ -19,10 +19,7 @@ use std::alloc::Global;
 
 /// The outcome of `mult`, printed as a block, if the terms of the product can be listed one after
 /// another; otherwise `None`.
-pub(crate) fn written_product(
-    alloc: Global,
-    factors: &Factors,
-) -> Result<Option<Outcome>, NoMemory>
+pub(crate) fn written_product(alloc: Global, factors: &Factors) -> Result<Option<Outcome>, NoMemory>
     ensures { IfOk result (λ o. IfSome o (λ outcome.
         IsReplyTo (commands.mult None false factors.now) (Ok outcome))) }
 {
