@@ -22,10 +22,6 @@ use coeff_rings::Int;
 use partitions::Partition;
 use std::alloc::Global;
 
-/// The greatest number of rows of which the tableaux are counted by rows. It was measured: beyond
-/// it, rows cost up to 60 times as much as columns.
-const MOST_ROWS: u16 = 12;
-
 /// The coefficient of the Schur polynomial of `outer` in the product of those of `left` and
 /// `right`: the number of good tableaux T of the shape `right` for the start `left` such that
 /// `left` + content(T) = `outer`.
@@ -157,14 +153,13 @@ fn count_in_rows(
 /// rows there is no limit. Six rows are added only if both factors have at least five parts: columns
 /// of at most four letters have few states. From seven rows on, the columns have at most about as
 /// many states as there are partitions inside the content, `inside`, but if these are many, often
-/// far fewer: so no more than 2^20 ways are tried in vain, or a small part of `inside`. Beyond 12
-/// rows none is tried, since the limit is one for each row.
+/// far fewer: so no more than 2^20 ways are tried in vain, or a small part of `inside`.
 fn most_additions(outer: &Partition, parts: u16, inside: u64) -> usize {
     let rows = outer.rows();
     if rows <= 5 || rows == 6 && parts >= 5 {
         return usize::MAX;
     }
-    if rows == 6 || rows > MOST_ROWS {
+    if rows == 6 {
         return 0;
     }
     (inside / 5).min((inside / 1024).max(1 << 20)) as usize
