@@ -1,5 +1,5 @@
 -- The text of a product whose terms are written one after another, as the outcome of its command.
-use Rattle.std.proofs.Common.{◌≡◌, ℕ, ◌<◌, true, false, Bool, ◌&&◌, List, [], ◌∷◌, ◌++◌, length, refl, sym, ◌∙◌, ap, subst, append_assoc, append-nil, inl, ℤ, FitsSigned, pos, arith}
+use Rattle.std.proofs.Common.{◌≡◌, ℕ, ◌<◌, true, false, Bool, ◌&&◌, List, [], ◌∷◌, ◌++◌, length, sym, ◌∙◌, ap, subst, append_assoc, append-nil, inl, ℤ, FitsSigned, pos, arith}
 use Rattle.std.specs.Prelude.{Option, Some, None, Ok, IfSome}
 use Rattle.std.specs.Int.{w128}
 use Rattle.std.specs.Option.{option_to_list}

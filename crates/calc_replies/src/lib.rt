@@ -1,5 +1,5 @@
 //! The outcome of the words of a command: `task_of` reads the words and computes the whole answer
-//! before anything is written, and `put_text` writes its text.
+//! before anything is written, as terms or as its text, and `put_text` writes its text.
 //!
 //! What is proved:
 //!

@@ -5,12 +5,12 @@ use Rattle.calc_base.specs.Growing.{Growing, growing_seen}
 use Rattle.calc_base.specs.Sink.{Appends}
 use Rattle.calc_base.specs.Puts.{Puts}
 use Rattle.calc_base.proofs.PutsLaws.{Appends-told, Puts-nothing}
-use Rattle.sym_model.specs.Expansion.{Fraction, Terms}
+use Rattle.sym_model.specs.Expansion.{Terms}
 use Rattle.sym_model.specs.Kind.{LabelRules}
 use Rattle.sym_model.specs.NumberText.{fraction_text}
-use Rattle.sym_model.specs.PrintedBlock.{line_by, lines_by, block_by}
+use Rattle.sym_model.specs.PrintedBlock.{lines_by, block_by}
 use Rattle.expansion_printer.specs.Blocks.{block_of}
-use Rattle.expansion_printer.specs.Gathering.{Waiting, HasPut, Gathers}
+use Rattle.expansion_printer.specs.Gathering.{Waiting, Gathers}
 
 pub bytes_after : (s t : Growing) (text : List ℕ) → Appends (growing_seen s) (growing_seen t) text → t.bytes ≡ s.bytes ++ text
 bytes_after s t text h = let e : Some t.bytes ≡ Some (s.bytes ++ text) = Appends-told s.bytes h refl in cc

@@ -5,7 +5,8 @@
 //!
 //! A printer collects its text in a buffer of fixed size, which is written to the sink when a
 //! further piece does not fit, and at the end. No write follows a failed one, and what was written
-//! is then a prefix of the text. Printing allocates no memory.
+//! is then a prefix of the text. Printing allocates no memory. `LineText` collects the lines of
+//! terms in memory, where they are wanted before the first byte is written.
 //!
 //! What is proved:
 //!

@@ -1,5 +1,5 @@
 -- The labels that a walk lists are in decreasing lexicographic order, and stay so without the zeros at their ends.
-use Rattle.std.proofs.Common.{◌≡◌, ◌⊎◌, inl, inr, ℕ, zero, suc, ◌<◌, ◌==◌, Bool, true, false, cond, List, [], ◌∷◌, ◌++◌, map, refl, sym, ap, ◌∙◌, subst, arith}
+use Rattle.std.proofs.Common.{◌≡◌, ◌⊎◌, inl, inr, ℕ, zero, suc, ◌<◌, ◌==◌, Bool, true, false, cond, List, [], ◌∷◌, map, refl, sym, ap, ◌∙◌, subst, arith}
 use Rattle.std.proofs.lemmas.List.{map-append}
 use Rattle.std.specs.Ordering.{nat_cmp, ordering_then}
 use Rattle.std.specs.declared.cmp.Ordering.TheVariants.{Less}
@@ -9,7 +9,7 @@ use Rattle.sym_model.specs.PartitionList.{FallsLexicographically}
 use Rattle.sym_model.specs.PrintedOrder.{falling_lexicographic}
 use Rattle.sym_model.proofs.PartitionLists.{FallsLexicographically-append, FallsLexicographically-map, greater_first}
 use Rattle.sym_model.proofs.Sums.{Among_from_append, Among_from_map}
-use Rattle.prefix_walk.specs.Terms.{with_entry, from_top, lone_term, terms_below}
+use Rattle.prefix_walk.specs.Terms.{with_entry, from_top, terms_below}
 
 abbrev pub labels_of : List (List ℕ × ℕ) → List (List ℕ)
 labels_of terms = map (λ (t : List ℕ × ℕ). t.0) terms

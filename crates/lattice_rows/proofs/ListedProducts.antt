@@ -1,10 +1,9 @@
 -- The terms that a walk over the rule for a product lists are a canonical list: their labels have the same size, and are in decreasing lexicographic
 -- order.
-use Rattle.std.proofs.Common.{◌≡◌, ◌⊎◌, inl, inr, ℕ, ◌+◌, ◌-◌, ◌^◌, ◌<◌, ◌≤◌, Bool, true, false, ◌&&◌, List, [], ◌∷◌, take, drop, get_or, replicate, refl, sym, ap, ◌∙◌, subst, arith, pos, ℤ, ltb}
+use Rattle.std.proofs.Common.{◌≡◌, ◌⊎◌, inl, inr, ℕ, ◌+◌, ◌-◌, ◌^◌, ◌<◌, ◌≤◌, true, false, ◌&&◌, List, [], ◌∷◌, take, drop, get_or, replicate, refl, sym, ap, ◌∙◌, subst, arith, pos}
 use Rattle.std.specs.Ordering.{is_lt, nat_cmp, ordering_then}
-use Rattle.std.specs.declared.cmp.Ordering.{Ordering}
 use Rattle.std.specs.declared.cmp.Ordering.TheVariants.{Less, Equal}
-use Rattle.std.proofs.lemmas.Bool.{and_from, and_parts, cases_eq, ltb-true, cases_Bool, cases_lt, lt-ltb}
+use Rattle.std.proofs.lemmas.Bool.{and_from, and_parts, cases_eq, ltb-true, cases_lt, lt-ltb}
 use Rattle.std.proofs.lemmas.Cmp.{nat_cmp_total, tied_itself}
 use Rattle.fraction_laws.specs.Fractions.{whole}
 use Rattle.fraction_laws.proofs.Fractions.{InLowestTerms-whole}
@@ -16,7 +15,7 @@ use Rattle.sym_model.specs.Partition.{IsPartition, ArePositive, part, rows, size
 use Rattle.sym_model.specs.PartitionList.{FallsLexicographically}
 use Rattle.sym_model.specs.PrintedOrder.{falling_lexicographic, printed_order}
 use Rattle.sym_model.specs.Sum.{Among}
-use Rattle.sym_model.specs.WholeTerms.{WholeTerms, as_fractions}
+use Rattle.sym_model.specs.WholeTerms.{as_fractions}
 use Rattle.sym_model.proofs.Orders.{is_label-from}
 use Rattle.partitions.specs.Limits.{IsWithinLimits}
 use Rattle.alternant_laws.proofs.CountedTerms.{product_counts_stable}
@@ -26,7 +25,6 @@ use Rattle.prefix_walk.specs.Terms.{terms_below}
 use Rattle.prefix_walk.specs.Levels.{at_most_cap}
 use Rattle.lr_product.specs.WeighedSum.{comes_to}
 use Rattle.lr_product.specs.RowExtension.{over_rows}
-use Rattle.lr_product.specs.Counts.{IsPastSomewhere}
 use Rattle.lr_product.proofs.GoodCounts.{product_count-other_size}
 use Rattle.lattice_rows.specs.LatticeRows.{row_ways}
 use Rattle.lattice_rows.specs.ListedProduct.{ListsProduct}

@@ -13,7 +13,8 @@
 //!
 //! `product` makes the terms of the product from this walk: the coefficient of each partition is
 //! the count `product_count` of good tableaux, the same as in `lr_product`, and `Large` is returned
-//! only if a coefficient exceeds 2^127 - 1.
+//! only if a coefficient exceeds 2^127 - 1. `ProductLister` gives the same terms one at a time, in
+//! printed order.
 //!
 //! Not proved: when `product` returns `None`. It does so if the rule does not apply; that it does
 //! so only then is not part of its contract.
