@@ -1092,7 +1092,7 @@ WPerm "a permutation" = Square
   | Simple -> simple
 Simple = s ~_ ~NUM -> list  # s_1 s_2: simple transpositions
   | Simple *|·? s ~_ ~NUM -> add
-Cycles = Round -> roundPermutation
+Cycles = Round -> orCode
   | CycleList -> cycles  # (1 2)(2 3): from the right, or from the left
 CycleList = Round Round -> list
   | CycleList Round -> add
