@@ -9,10 +9,9 @@ ghost use Rattle.linear_combinations.specs.Gains.{over};
 ghost use Rattle.monk_product.specs.RowPaths.{IsPathFor};
 
 use crate::row_path::RowPath;
-use crate::row_summands::Layers;
+use crate::row_summands::{Layers, likely_terms};
 use crate::row_table::product_by_rows;
 use crate::short_monk::{ShortSum, written_out};
-use crate::short_perm::MOST_LETTERS;
 use calc_base::SumFault;
 use coeff_rings::Int;
 use linear_combinations::Terms;
@@ -22,12 +21,9 @@ use std::cmp::Ordering;
 use transition_walk::transition_places;
 
 /// A product by rows is likely to be faster than the transition rule if the size of its plan
-/// (`Layers`) is at most this number for each step of the transition rule on permutations of at most
-/// 32 letters.
-const SIZE_OF_STEP: usize = 25;
-
-/// The same number if the permutations may have more letters: these steps take longer.
-const SIZE_OF_LONG_STEP: usize = 59;
+/// (`Layers`), times this number, is at most the square of the size of the steps of the transition
+/// rule (`most_size`).
+const SIZE_IN_SQUARE: usize = 2000;
 
 /// With so many steps of the transition rule, products are computed row by row, whatever the size.
 const MOST_STEPS: usize = 2048;
@@ -63,11 +59,12 @@ pub(crate) fn product_if_fast(
     ensures { IfOk result (λ terms. (n : ℕ) → Represents (λ x. schubert_in x n)
         (as_fractions terms) (times (schubert_in u.now n) (schubert_in v.now n)) 1) }
 {
-    let most = if u.inversions() <= v.inversions() {
-        most_size(alloc, u, v)?
+    let w = if u.inversions() < v.inversions() {
+        u
     } else {
-        most_size(alloc, v, u)?
+        v
     };
+    let most = most_size(alloc, w)?;
     let sum = product_by_plan(alloc, u, v, most)?;
     Ok(written_out(alloc, sum.sorted_terms()?)?)
 }
@@ -89,22 +86,20 @@ fn product_by_plan(alloc: Global, u: &Perm, v: &Perm, most: usize) -> Result<Sho
     product_by_rows(alloc, &left.path, &left.layers.perms, v, u)
 }
 
-/// The greatest size of a plan by which the product of the Schubert polynomials of `w` and `other`
-/// is likely to be faster than by the transition rule on `w`, by the number of its steps.
-fn most_size(alloc: Global, w: &Perm, other: &Perm) -> Result<usize, SumFault> {
-    let letters = usize::from(w.len().max(other.len()));
-    let size = if letters.saturating_add(usize::from(w.inversions())) <= MOST_LETTERS {
-        SIZE_OF_STEP
-    } else {
-        SIZE_OF_LONG_STEP
-    };
+/// The greatest size of a plan by which a product is likely to be faster than by the transition rule
+/// on `w`. The size of the steps of the transition rule is the sum over them of the likely number of
+/// terms (`likely_terms`) by which the permutation of the step is multiplied.
+fn most_size(alloc: Global, w: &Perm) -> Result<usize, SumFault> {
     let mut todo = Vec::new(alloc);
     todo.push(w.copy()?)?;
-    for steps in 0..MOST_STEPS {
+    let mut size: usize = 0;
+    for _ in 0..MOST_STEPS {
         let Some(last) = todo.pop() else {
-            return Ok(size.saturating_mul(steps));
+            return Ok(size.saturating_mul(size) / SIZE_IN_SQUARE);
         };
         if let Some((r, s)) = transition_places(&last) {
+            let degree = w.inversions().saturating_sub(last.inversions());
+            size = size.saturating_add(likely_terms(usize::from(degree)));
             let lower = last.times_swap(r, s)?;
             for cover in lower.covers_down(r)? {
                 add_waiting(&mut todo, cover)?;

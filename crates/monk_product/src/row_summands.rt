@@ -236,8 +236,8 @@ pub(crate) struct Layers {
     /// For each number of rows, from 0 on, the permutations at which the value of so many rows is
     /// wanted: in the printed order, each once.
     pub(crate) perms: Vec<Vec<ShortPerm>>,
-    /// The sum over all summands of the likely number of terms (`likely_terms`) of the value that
-    /// they are a part of.
+    /// The sum over all summands of the likely number of terms (`likely_terms`) of what is multiplied
+    /// for it: the value of the rows before at its permutation.
     pub(crate) size: usize,
 }
 
@@ -260,11 +260,10 @@ impl Layers {
         let mut perms = Vec::new(alloc);
         let mut layer = Vec::new(alloc);
         layer.push(p.copy()?)?;
-        let all = degree_of_value(n, cells_before(rows.len(), rows), p);
         let mut size = 0;
         let mut left = MOST_PERMUTATIONS;
         for i in (0..rows.len()).rev() {
-            let lower = layer_below(alloc, layer.as_slice(), n, i, rows, all, &mut size)?;
+            let lower = layer_below(alloc, layer.as_slice(), n, i, rows, &mut size)?;
             perms.push(layer)?;
             layer = lower;
             left = left.checked_sub(layer.len()).ok_or(SumFault::Large)?;
@@ -279,15 +278,14 @@ impl Layers {
 }
 
 /// The permutations of the summands at the permutations of `layer`, of the row i of `rows`; those of
-/// `layer` if this row has no cells. In the printed order, each once. The value of all rows has the
-/// degree `all`. Adds to `size` what these summands add to the size of all (`Layers`).
+/// `layer` if this row has no cells. In the printed order, each once. Adds to `size` what these
+/// summands add to the size of all (`Layers`).
 fn layer_below(
     alloc: Global,
     layer: &[ShortPerm],
     n: usize,
     i: usize,
     rows: &[usize],
-    all: usize,
     size: &mut usize,
 ) -> Result<Vec<ShortPerm>, SumFault> {
     let (before, cells) = (cells_before(i, rows), rows.get(i).copied().unwrap_or(0));
@@ -296,9 +294,9 @@ fn layer_below(
         if cells == 0 {
             found.add_at_label(q, Int::one())?;
         } else {
-            let degree = degree_of_value(n, before.saturating_add(cells), q);
             for summand in row_summands(alloc, q, n, i, cells)? {
-                *size = size.saturating_add(likely_terms(degree, all));
+                let degree = degree_of_value(n, before, &summand.perm);
+                *size = size.saturating_add(likely_terms(degree));
                 found.add_owned(summand.perm, Int::one())?;
             }
         }
@@ -326,10 +324,9 @@ fn degree_of_value(n: usize, cells: usize, q: &ShortPerm) -> usize {
     cells.saturating_sub(pairs.saturating_sub(q.inversions()))
 }
 
-/// A guess at the number of Schubert polynomials in a product of one of them and a polynomial of this
-/// degree, for a comparison of the ways to multiply. It is 32 if the degree is `all`, that of the
-/// whole factor, and half as much with each fifth of `all` less, as measured on random products.
-fn likely_terms(degree: usize, all: usize) -> usize {
-    let fifths = degree.saturating_mul(5) / all.max(1);
-    [1, 2, 4, 8, 16, 32][fifths.min(5)]
+/// A guess at the number of Schubert polynomials in the product of one of them and a polynomial of
+/// this degree, for a comparison of the ways to multiply.
+pub(crate) fn likely_terms(degree: usize) -> usize {
+    let side = degree.saturating_add(1);
+    side.saturating_mul(side)
 }
