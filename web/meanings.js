@@ -276,6 +276,7 @@ const MEANINGS = {
   characterOnly: (list) => (isPartition(list) ? eitherOf(standardOf(list), reading("expand p", atomText("s", list))) : null),
   inner: (a, b) => scalarProduct(a, b) || scalarProduct(b, a),
   // permutations
+  roundPermutation: (list) => eitherOf(list, cycled([list])),
   // (a list in parentheses as an index is one-line notation, a cycle or a code of Lehmer; 1 is the identity or s_1)
   orCode: (list) => eitherOf(list, cycled([list]), cycled([list]) && ofCode(list)),
   orSimple: (w) => eitherOf(w, w.join() === "1" && ["2", "1"]),

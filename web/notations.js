@@ -643,6 +643,7 @@ FlagPair = FlagClass By FlagClass -> list
 Monk = schubert structure constants|coefficients of|for|:? -> ""
   | schubert polynomials? product|multiplication of|for|:? -> ""
 OfW = w = -> ""
+OrCode = Round -> orCode
   | F ~_ w for|with w = -> ""
   | permutation -> ""
 InSchubert = In schubert polynomials|basis|classes -> ""
@@ -671,6 +672,7 @@ Question = SPolys -> schubertProduct
   | lrcalc . mult_schubert WOther -> permuted schubmult
   | product of? schubert polynomials of? for? WOther -> permuted schubmult
   | schubert polynomials of? for? OfW? WPerm -> permuted schubert 6
+  | schubert polynomials of? for? OfW? OrCode -> permuted schubert 6
   | F Perm -> ? stanleyOf  # F_{321}: of Stanley, of w or of its inverse, or fundamental
   | F Perm InVariables -> ? stanleyOf
   | Convert? F Perm InSchur -> ? stanleyOf
@@ -1092,7 +1094,7 @@ WPerm "a permutation" = Square
   | Simple -> simple
 Simple = s ~_ ~NUM -> list  # s_1 s_2: simple transpositions
   | Simple *|·? s ~_ ~NUM -> add
-Cycles = Round -> orCode
+Cycles = Round -> roundPermutation
   | CycleList -> cycles  # (1 2)(2 3): from the right, or from the left
 CycleList = Round Round -> list
   | CycleList Round -> add
