@@ -643,9 +643,9 @@ FlagPair = FlagClass By FlagClass -> list
 Monk = schubert structure constants|coefficients of|for|:? -> ""
   | schubert polynomials? product|multiplication of|for|:? -> ""
 OfW = w = -> ""
-OrCode = Round -> orCode
   | F ~_ w for|with w = -> ""
   | permutation -> ""
+OrCode = Round -> orCode
 InSchubert = In schubert polynomials|basis|classes -> ""
 Question = SPolys -> schubertProduct
   | Convert? SPolys InSchubert -> schubertProduct 2
