@@ -14,7 +14,7 @@ ghost use Rattle.lr_product.specs.Capped.{Agree};
 
 use crate::columns::ways_by_columns;
 use crate::letter_room::has_no_room;
-use crate::rows::count_by_rows;
+use crate::rows::{count_by_rows, first_states};
 use crate::states::{States, coefficient_of};
 use crate::table::capped;
 use calc_base::{NoMemory, SumFault};
@@ -44,6 +44,66 @@ pub fn coef(
 {
     let count = count_in(alloc, outer, left, right)?;
     Ok(coefficient_of(count)?)
+}
+
+/// The coefficient of the Schur polynomial of `outer` in the product of those of `left` and
+/// `right`, as `coef` returns it, counted by rows. `None` if a row can be added in more than `most`
+/// ways, if the first rows suggest this, or if the tableaux cannot be counted by rows: `outer` has
+/// fewer than two rows, a factor is empty, or a sum exceeds 2^128 - 1.
+///
+/// Returns `Large` only if the coefficient exceeds 2^127 - 1, and the coefficient only if it does
+/// not.
+pub fn coef_by_rows(
+    alloc: Global,
+    outer: &Partition,
+    left: &Partition,
+    right: &Partition,
+    most: usize,
+) -> Result<Option<Int>, SumFault>
+    requires { size left.now + size right.now ≤ 4096 }
+    ensures count { IfOk result (λ o. IfSome o (λ c. c
+        ≡ pos (product_count (rows outer.now) left.now right.now outer.now))) }
+    ensures meets { IfOk result (λ o. IfSome o (λ c.
+        IsProductCoefficientOf outer.now left.now right.now c)) }
+    ensures large { IsErrOf result SumFault.Large
+        → HasPast (IsProductCoefficientOf outer.now left.now right.now) }
+    ensures fits { IfOk result (λ o. IfSome o (λ _.
+        HasPast (IsProductCoefficientOf outer.now left.now right.now) → ⊥)) }
+{
+    let Some(count) = count_within(alloc, outer, left, right, most)? else {
+        return Ok(None);
+    };
+    Ok(Some(coefficient_of(count)?))
+}
+
+/// The coefficient of `outer` in the product of `left` and `right`, counted by rows; 2^127 if it is
+/// greater. The rows are those of outer/left, filled with the content `right`, or those of
+/// outer/right: those whose first rows reach fewer states. `None` if a row can be added in more than
+/// `most` ways, if one of the first rows can be added in more than a 128th as many, or for the other
+/// reasons for which `count_by_rows` does not count. Fails only if memory runs out.
+fn count_within(
+    alloc: Global,
+    outer: &Partition,
+    left: &Partition,
+    right: &Partition,
+    most: usize,
+) -> Result<Option<u128>, NoMemory>
+    ensures agrees { IfOk result (λ o. IfSome o (λ count. Agree count
+        (product_count (rows outer.now) left.now right.now outer.now))) }
+    ensures factors { IsPartition outer.now × IsPartition left.now × IsPartition right.now }
+{
+    if has_no_room(outer, left, right) {
+        return Ok(Some(0));
+    }
+    let by_right = first_states(alloc, outer, left.parts(), right.parts(), most / 128)?;
+    let by_left = first_states(alloc, outer, right.parts(), left.parts(), most / 128)?;
+    if by_left < by_right {
+        return count_in_rows(alloc, outer, right, left, most);
+    }
+    if by_right == usize::MAX {
+        return Ok(None);
+    }
+    count_in_rows(alloc, outer, left, right, most)
 }
 
 /// The coefficient of `outer` in the product of `left` and `right`: the number of lattice tableaux
@@ -114,7 +174,7 @@ fn count_inside(
         return Ok(0);
     }
     let most = most_additions(outer, inner.rows().min(content.rows()), inside);
-    if let Some(count) = count_in_rows(alloc, outer, inner, content, most)? {
+    if let Some(count) = count_in_few_letters(alloc, outer, inner, content, most)? {
         return Ok(count);
     }
     let letters = content.rows();
@@ -125,10 +185,9 @@ fn count_inside(
 
 /// The number of lattice tableaux of the skew shape outer/inner with the content `content`, counted
 /// by rows; 2^127 if it is greater. `inner` and `content` are exchanged if that makes the letters
-/// fewer, since the ways to add a row grow with them. `None` if a row can be added in more than
-/// `most` ways, or for the other reasons for which `count_by_rows` does not count. Fails only if
-/// memory runs out.
-fn count_in_rows(
+/// fewer, since the ways to add a row grow with them. `None` for the reasons for which
+/// `count_by_rows` does not count. Fails only if memory runs out.
+fn count_in_few_letters(
     alloc: Global,
     outer: &Partition,
     inner: &Partition,
@@ -143,8 +202,27 @@ fn count_in_rows(
         (product_count (rows outer.now) inner.now content.now outer.now))) }
 {
     if inner.rows() < content.rows() {
-        return count_by_rows(alloc, outer, content.parts(), inner.parts(), most);
+        return count_in_rows(alloc, outer, content, inner, most);
     }
+    count_in_rows(alloc, outer, inner, content, most)
+}
+
+/// The number of lattice tableaux of the skew shape outer/inner with the content `content`, counted
+/// by rows; 2^127 if it is greater. `None` for the reasons for which `count_by_rows` does not count.
+/// Fails only if memory runs out.
+fn count_in_rows(
+    alloc: Global,
+    outer: &Partition,
+    inner: &Partition,
+    content: &Partition,
+    most: usize,
+) -> Result<Option<u128>, NoMemory>
+    requires shape { IsPartition outer.now }
+    requires size { size outer.now ≤ 4096 }
+    requires inside { contains outer.now inner.now ≡ true }
+    ensures agrees { IfOk result (λ o. IfSome o (λ count. Agree count
+        (product_count (rows outer.now) inner.now content.now outer.now))) }
+{
     count_by_rows(alloc, outer, inner.parts(), content.parts(), most)
 }
 

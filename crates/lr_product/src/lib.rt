@@ -39,7 +39,7 @@ mod states;
 mod step;
 mod table;
 
-pub use coefficient::coef;
+pub use coefficient::{coef, coef_by_rows};
 pub use factor_product::mult_all;
 pub use product::mult;
 pub use skew_expansion::skew;

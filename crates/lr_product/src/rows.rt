@@ -181,6 +181,31 @@ pub(crate) fn count_by_rows(
     completed_count(alloc, &table, content, rows)
 }
 
+/// The number of states that are reached by all rows of outer/inner but the last three, filled for
+/// the content `content`; 2^64 - 1 if one of them can be added in more than `most` ways. The next
+/// row, the last one that `count_by_rows` adds to a table, can often be added in about a hundred
+/// times as many ways. Fails only if memory runs out.
+pub(crate) fn first_states(
+    alloc: Global,
+    outer: &Partition,
+    inner: &[u16],
+    content: &[u16],
+    most: usize,
+) -> Result<usize, NoMemory>
+    requires letters { length content.now ≤ 512 }
+    requires inside { contains outer.now inner.now ≡ true }
+    requires size { size outer.now ≤ 4096 }
+{
+    let letters = content.len() as u16;
+    let starts = first_table(alloc, &[], letters)?;
+    let rows = outer.parts().len().saturating_sub(3);
+    let table = with_rows(alloc, starts, outer, inner, letters, content, rows, most)?;
+    match table {
+        Some(states) => Ok(states.len()),
+        None => Ok(usize::MAX),
+    }
+}
+
 /// The number of cells of outer/inner.
 fn number_of_cells(outer: &[u16], inner: &[u16]) -> u16
     requires { size outer.now ≤ 4096 }

@@ -5,7 +5,6 @@ use Rattle.sym_model.specs.Polynomial.{resize}
 use Rattle.sym_model.specs.Schur.{contains}
 use Rattle.sym_model.specs.GoodTableau.{product_count}
 use Rattle.tableau_laws.specs.ColumnFold.{column_lines}
-use Rattle.schur_laws.proofs.ProductCounts.{product_exchanged}
 use Rattle.lr_product.specs.Capped.{Agree}
 use Rattle.lr_product.specs.WeighedSum.{over_states, comes_to}
 use Rattle.lr_product.proofs.Sums.{states-shape}
@@ -20,24 +19,10 @@ by_shape r inner content outer parts inside p i a b c h f =
     (ap₂ (λ (q t : List ℕ). over_states (length q) (column_lines outer t) (comes_to q) (resize (length q) []) []) p i
     ∙ states-shape inner content outer a b c h) f
 
-pub returns-then-rows : goal.returns-then-rows
-returns-then-rows c =
-    let inner = c.args.inner.now in
-    let content = c.args.content.now in
-    let outer = c.args.outer.now in
-    let a = c.parts-then-rows.ensures.limits.partition in
-    let b = c.parts.ensures.limits.partition in
-    record {
-      agrees = subst (λ n. IfOk c.count_by_rows.result (λ o. IfSome o (λ count. Agree count n)))
-          (product_exchanged content inner outer b a c.requires.shape)
-          (by_shape c.count_by_rows.result content inner outer c.parts-then-rows.result.now c.parts.result.now c.parts-then-rows.ensures.value
-          c.parts.ensures.value b a c.requires.shape c.requires.content c.count_by_rows.ensures.agrees);
-    }
-
 pub returns : goal.returns
 returns c =
     record {
-      agrees = by_shape c.count_by_rows-2.result c.args.inner.now c.args.content.now c.args.outer.now c.parts-3.result.now
-          c.parts-2.result.now c.parts-3.ensures.value c.parts-2.ensures.value c.parts-2.ensures.limits.partition
-          c.parts-3.ensures.limits.partition c.requires.shape c.requires.inside c.count_by_rows-2.ensures.agrees;
+      agrees = by_shape c.count_by_rows.result c.args.inner.now c.args.content.now c.args.outer.now c.parts-2.result.now
+          c.parts.result.now c.parts-2.ensures.value c.parts.ensures.value c.parts.ensures.limits.partition
+          c.parts-2.ensures.limits.partition c.requires.shape c.requires.inside c.count_by_rows.ensures.agrees;
     }

@@ -1,4 +1,4 @@
-use Rattle.std.proofs.Common.{◌≡◌, ◌+◌, ◌-◌, ◌<◌, ◌∷◌, [], length, take, drop, subst, arith}
+use Rattle.std.proofs.Common.{◌≡◌, ◌+◌, ◌<◌, ◌∷◌, [], length, take, drop, subst, arith}
 use Rattle.std.specs.Prelude.{IfSome}
 use Rattle.lr_product.specs.WeighedSum.{at_state, weighed, unreached, comes_to}
 use Rattle.lr_product.specs.RowExtension.{over_rows}

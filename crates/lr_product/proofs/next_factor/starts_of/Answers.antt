@@ -1,6 +1,5 @@
 use Rattle.std.proofs.Common.{Iter, ◌≡◌, ◌≤◌, ℕ, ℤ, List, [], ◌∷◌, ◌++◌, ◌+◌, ◌*◌, nat_abs, map, rules}
 use Rattle.std.proofs.Common.{sym, ap, ap₂, subst, ◌∙◌, arith, to_z-of_z}
-use Rattle.std.specs.Int.{w128}
 use Rattle.std.proofs.lemmas.List.{map-append}
 use Rattle.sym_model.specs.Sum.{Among}
 use Rattle.sym_model.specs.Partition.{rows}

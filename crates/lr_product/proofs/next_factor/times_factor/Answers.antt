@@ -12,7 +12,7 @@ use Rattle.product_laws.specs.CountedProducts.{Reaches}
 use Rattle.lr_product.specs.Capped.{Agree}
 use Rattle.lr_product.specs.Counts.{HasCounts, IsPastSomewhere}
 use Rattle.lr_product.specs.ProductOfFactors.{AllMayMeet, AreSmallCounts}
-use Rattle.lr_product.specs.RowExtension.{begun, VanishesBelow}
+use Rattle.lr_product.specs.RowExtension.{VanishesBelow}
 use Rattle.lr_product.specs.WeighedSum.{weighed, started, over_states, comes_to, unreached, VanishesOutside}
 use Rattle.lr_product.proofs.Agreeing.{agree_then}
 use Rattle.lr_product.proofs.RowPruning.{none_below}
