@@ -1,6 +1,6 @@
 -- Partitions whose product has the same coefficient as another.
-use Rattle.std.proofs.Common.{◌≡◌, ◌+◌, ◌≤◌, ℕ, List, sym, ◌∙◌, ap, subst, arith, ℤ, pos, Option, Some, Result, Ok, Err}
-use Rattle.std.specs.Prelude.{IfSome, OnOk}
+use Rattle.std.proofs.Common.{◌≡◌, ◌+◌, ◌≤◌, ℕ, List, sym, ◌∙◌, ap, subst, arith, ℤ, pos, Result, Ok, Err}
+use Rattle.std.specs.Prelude.{OnOk}
 use Rattle.sym_model.specs.Partition.{IsPartition, rows, columns}
 use Rattle.sym_model.specs.GoodTableau.{product_count}
 use Rattle.sym_model.specs.PastLimit.{HasPast}
@@ -80,10 +80,7 @@ same_made k n m width outer left right o l r p q s f g h a b w d x y z =
     (subst (λ v. HasSameCoefficient k outer left right (complement k (n + m) outer) v r) (sym y)
     (subst (λ v. HasSameCoefficient k outer left right (complement k (n + m) outer) (complement k n left) v) (sym z) c))
 
--- ---- results and options
-
-pub told : {A : Type 0} (P : A → Type 0) (o : Option A) (x : A) → o ≡ Some x → IfSome o P → P x
-told P o x e h = subst (λ q. IfSome q P) e h
+-- ---- results
 
 pub on_ok : {T E : Type 0} {P Q : Type 0} (r : Result T E) → OnOk r P → (P → Q) → OnOk r Q
 on_ok (Ok x) h f = f h

@@ -16,6 +16,10 @@ use std::alloc::Global;
 /// The greatest number of cells that both factors may have together, for `lr_product::coef`.
 const MOST_CELLS: u16 = 4096;
 
+/// The greatest number of ways to add a row that are tried before the columns of another form are
+/// taken.
+const MOST_ADDITIONS: u64 = 1 << 18;
+
 /// A coefficient that can be counted: that of `outer` in the product of `left` and `right`.
 #[derive(Debug, Drop)]
 struct Coefficient {
@@ -44,10 +48,55 @@ pub fn coef(
     ensures fits { OnOk result (HasPast (IsProductCoefficientOf outer.now left.now right.now)
         → ⊥) }
 {
+    if let Some(count) = count_by_rows(alloc, outer, left, right)? {
+        return Ok(count);
+    }
     match fastest(alloc, outer, left, right)? {
         Some(other) => lr_product::coef(alloc, &other.outer, &other.left, &other.right),
         None => lr_product::coef(alloc, outer, left, right),
     }
+}
+
+/// The same coefficient, counted by rows, for a partition with more than six rows; else
+/// `lr_product::coef` knows whether rows or columns are faster. `None` if a row can be added in too
+/// many ways: in more than a quarter of the number of partitions inside a factor, which is about the
+/// number of states of the columns of the fastest form.
+fn count_by_rows(
+    alloc: Global,
+    outer: &Partition,
+    left: &Partition,
+    right: &Partition,
+) -> Result<Option<Int>, SumFault>
+    requires { size left.now + size right.now ≤ 4096 }
+    ensures count { IfOk result (λ o. IfSome o (λ c. c
+        ≡ pos (product_count (rows outer.now) left.now right.now outer.now))) }
+    ensures meets { IfOk result (λ o. IfSome o (λ c.
+        IsProductCoefficientOf outer.now left.now right.now c)) }
+    ensures large { IsErrOf result SumFault.Large
+        → HasPast (IsProductCoefficientOf outer.now left.now right.now) }
+    ensures fits { IfOk result (λ o. IfSome o (λ _.
+        HasPast (IsProductCoefficientOf outer.now left.now right.now) → ⊥)) }
+{
+    let k = outer.rows();
+    if k <= 6 {
+        return Ok(None);
+    }
+    let inside = fewest_inside(alloc, k, left)?.min(fewest_inside(alloc, k, right)?);
+    let most = (inside / 4).min(MOST_ADDITIONS) as usize;
+    lr_product::coef_by_rows(alloc, outer, left, right, most)
+}
+
+/// The number of partitions inside a factor, or inside its complement in the narrowest rectangle
+/// with `k` rows if these are fewer.
+fn fewest_inside(alloc: Global, k: u16, factor: &Partition) -> Result<u64, NoMemory> {
+    let inside = number_inside(alloc, factor.parts())?;
+    if factor.rows() > k {
+        return Ok(inside);
+    }
+    let Some(other) = complement(alloc, k, factor.part(1), factor)? else {
+        return Ok(inside);
+    };
+    Ok(inside.min(number_inside(alloc, other.parts())?))
 }
 
 /// The complements of the partitions, or the complements of these, which are the partitions without

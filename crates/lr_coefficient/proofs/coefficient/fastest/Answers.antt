@@ -1,6 +1,7 @@
 use Rattle.std.proofs.Common.{subst}
 use Rattle.lr_coefficient.specs.SameCoefficient.{HasSameCoefficient}
-use Rattle.lr_coefficient.proofs.SameCounts.{same-twice, told}
+use Rattle.lr_product.proofs.Results.{told}
+use Rattle.lr_coefficient.proofs.SameCounts.{same-twice}
 use Rattle.lr_coefficient.proofs.coefficient.fastest.Goals as goal
 
 pub returns-then-branch-clause-same : goal.returns-then-branch-clause-same
