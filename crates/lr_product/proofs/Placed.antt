@@ -54,12 +54,13 @@ past_at_end [] (suc at) h = refl
 past_at_end (e ∷ es) zero h = absurd (omega arith)
 past_at_end (e ∷ es) (suc at) h = past_at_end es at (omega arith)
 
--- if the entries with the indices `places` have the same weighed sum as the first `at` entries, then the entries with the indices `places` and `at`
--- have the same weighed sum as the first at + 1 entries
-pub sums_next : (n : ℕ) (es : List (List ℕ × ℕ)) (f : List ℕ → List ℕ → ℕ) (at : ℕ) (places : List ℕ) → at < length es → lists.sum_by (count_at n es f) places ≡ weighed n f (take at es)
-    → lists.sum_by (count_at n es f) (places ++ at ∷ []) ≡ weighed n f (take (at + 1) es)
-sums_next n es f at places h e =
-    sum_by_push (count_at n es f) places at ∙ ap (λ s. s + count_at n es f at) e
+-- if the entries with the indices `places`, each behind a key, have the same weighed sum as the first `at` entries, then the entries with the indices
+-- `places` and `at` have the same weighed sum as the first at + 1 entries
+pub sums_next : (n : ℕ) (es : List (List ℕ × ℕ)) (f : List ℕ → List ℕ → ℕ) (at key : ℕ) (places : List (ℕ × ℕ)) → at < length es
+    → lists.sum_by (λ (place : ℕ × ℕ). count_at n es f place.1) places ≡ weighed n f (take at es)
+    → lists.sum_by (λ (place : ℕ × ℕ). count_at n es f place.1) (places ++ (key, at) ∷ []) ≡ weighed n f (take (at + 1) es)
+sums_next n es f at key places h e =
+    sum_by_push (λ (place : ℕ × ℕ). count_at n es f place.1) places (key, at) ∙ ap (λ s. s + count_at n es f at) e
     ∙ sym (weighed-take n f es at (entry_at es at).0 (entry_at es at).1 (here_at es at h))
 
 -- ---- the term that is added for one index

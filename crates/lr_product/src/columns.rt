@@ -79,29 +79,36 @@ pub(crate) fn with_columns(
         (λ table. weighed letters (unreached letters 4096) table.entries ≡ 0) }
     ensures shape { OnOk result (IsPartition outer.now) }
 {
+    let mut line: Vec<bool> = Vec::new(alloc);
+    let mut reached: Vec<u16> = Vec::new(alloc);
     let mut table = starts;
     let mut at = outer.part(1);
     while at > 0 {
-        let line = line_of(alloc, outer.parts(), inner, at)?;
-        table = with_column(alloc, &table, letters, &line, bound, at > 1)?;
+        write_line(&mut line, outer.parts(), inner, at)?;
+        table = with_column(alloc, &mut reached, &table, letters, &line, bound, at > 1)?;
         at -= 1;
     }
     Ok(table)
 }
 
-/// For each row of `outer` that has at least `column` cells, whether outer/inner has a cell in that
-/// row and column.
-fn line_of(alloc: Global, outer: &[u16], inner: &[u16], column: u16) -> Result<Vec<bool>, NoMemory>
-    ensures { IfOk result (λ line. line.items ≡ column_line column outer.now inner.now) }
+/// Sets `line` to the places of a column: for each row of `outer` that has at least `column` cells,
+/// whether outer/inner has a cell in that row and column.
+fn write_line(
+    line: &mut Vec<bool>,
+    outer: &[u16],
+    inner: &[u16],
+    column: u16,
+) -> Result<(), NoMemory>
+    ensures { OnOk result (line.new.items ≡ column_line column outer.now inner.now) }
 {
-    let mut line = Vec::new(alloc);
+    line.clear();
     for row in 0..outer.len() {
         if outer[row] < column {
             continue;
         }
         line.push(inner.get(row).copied().unwrap_or(0) < column)?;
     }
-    Ok(line)
+    Ok(())
 }
 
 /// The table with a single state, whose count is 1. Its sum is `start` followed by zeros, `letters`
@@ -112,9 +119,7 @@ pub(crate) fn first_table(alloc: Global, start: &[u16], letters: u16) -> Result<
         → Agree (weighed letters f table.entries) (f (resize letters start.now) [])) }
 {
     let state = padded(alloc, start, letters)?;
-    let mut states = States::with_room(alloc, usize::from(letters), 1)?;
-    states.push(&state, 1)?;
-    Ok(states)
+    States::single(alloc, state)
 }
 
 /// Adds `count` to the count of one state of the table. The sum of this state is `start` followed
@@ -143,7 +148,7 @@ fn padded(alloc: Global, numbers: &[u16], len: u16) -> Result<Vec<u16>, NoMemory
     requires { length numbers.now ≤ len }
     ensures { IfOk result (λ state. state.items ≡ resize len numbers.now) }
 {
-    let mut state: Vec<u16> = Vec::new(alloc);
+    let mut state: Vec<u16> = Vec::with_capacity(alloc, usize::from(len))?;
     state.extend_from_slice(numbers)?;
     while state.len() < usize::from(len) {
         state.push(0)?;

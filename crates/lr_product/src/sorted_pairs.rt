@@ -44,36 +44,27 @@ pub(crate) fn sorted_pairs(
         ≡ pos (weighed letters (comes_to parts) table.now.entries)) }
     ensures small { IfOk result (λ pairs. AreSmallTerms pairs.items) }
 {
-    let keys = keys_of(alloc, table, letters)?;
-    let mut places = places_of(alloc, table)?;
-    sort_places(table, &keys, letters, &mut places);
-    drop(keys);
+    let mut places = places_of(alloc, table, letters)?;
+    sort_places(table, letters, &mut places);
     let mut pairs: Vec<(Partition, Int)> = Vec::with_capacity(alloc, places.len())?;
     for k in 0..places.len() {
-        add_place(alloc, &mut pairs, table, places[k], letters)?;
+        add_place(alloc, &mut pairs, table, places[k].1, letters)?;
     }
     Ok(pairs)
 }
 
-/// The indices of all states of the table.
-fn places_of(alloc: Global, table: &States) -> Result<Vec<usize>, NoMemory>
+/// The indices of all states of the table, each behind the key (`key_of`) of the sum of its state, by
+/// which most sums can be compared.
+fn places_of(alloc: Global, table: &States, letters: u16) -> Result<Vec<(u64, usize)>, NoMemory>
     ensures { IfOk result (λ places. (n : ℕ) (f : List ℕ → List ℕ → ℕ)
-        → sum_by (count_at n table.now.entries f) places.items ≡ weighed n f table.now.entries) }
+        → sum_by (λ place. count_at n table.now.entries f place.1) places.items
+        ≡ weighed n f table.now.entries) }
 {
-    let mut places: Vec<usize> = Vec::with_capacity(alloc, table.len())?;
+    let mut places: Vec<(u64, usize)> = Vec::with_capacity(alloc, table.len())?;
     for at in 0..table.len() {
-        places.push(at)?;
+        places.push((key_of(sum_at(table, letters, at)), at))?;
     }
     Ok(places)
-}
-
-/// For each state, the key (`key_of`) of its sum, by which most sums can be compared.
-fn keys_of(alloc: Global, table: &States, letters: u16) -> Result<Vec<u64>, NoMemory> {
-    let mut keys: Vec<u64> = Vec::with_capacity(alloc, table.len())?;
-    for at in 0..table.len() {
-        keys.push(key_of(sum_at(table, letters, at)))?;
-    }
-    Ok(keys)
 }
 
 /// A key of a sum: its first eight numbers as the bytes of one number, the first of them in the
@@ -92,18 +83,13 @@ fn key_of(sum: &[u16]) -> u64 {
     key
 }
 
-/// The key at the index `at`; 0 after the last key.
-fn key_at(keys: &[u64], at: usize) -> u64 {
-    keys.get(at).copied().unwrap_or(0)
-}
-
-/// Sorts the indices `places` of states by the sums of the states, in decreasing lexicographic
-/// order. Two sums are compared only if their keys are equal.
-fn sort_places(table: &States, keys: &[u64], letters: u16, places: &mut Vec<usize>)
+/// Sorts the indices of states by the sums of the states, in decreasing lexicographic order. Two sums
+/// are compared only if their keys are equal.
+fn sort_places(table: &States, letters: u16, places: &mut Vec<(u64, usize)>)
     ensures { IsPermutation places.old.items places.new.items }
 {
-    places.sort_unstable_by(|a, b| match key_at(keys, *b).cmp(&key_at(keys, *a)) {
-        Ordering::Equal => sum_at(table, letters, *b).cmp(&sum_at(table, letters, *a)),
+    places.sort_unstable_by(|a, b| match b.0.cmp(&a.0) {
+        Ordering::Equal => sum_at(table, letters, b.1).cmp(&sum_at(table, letters, a.1)),
         order => order,
     });
 }

@@ -66,6 +66,19 @@ impl States {
         })
     }
 
+    /// The list with the single state `state`, whose count is 1.
+    pub(crate) fn single(alloc: Global, state: Vec<u16>) -> Result<States, NoMemory>
+        ensures { IfOk result (λ s. s.entries ≡ (state.items, 1) ∷ []) }
+    {
+        let mut counts: Vec<u128> = Vec::with_capacity(alloc, 1)?;
+        counts.push(1)?;
+        Ok(States {
+            width: state.len(),
+            numbers: state,
+            counts,
+        })
+    }
+
     /// The number of states.
     pub(crate) fn len(&self) -> usize
         ensures count { result ≡ length self.now.entries }

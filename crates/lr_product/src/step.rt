@@ -17,9 +17,10 @@ use std::alloc::Global;
 /// The table of the states reached from those of `table` by adding one column with letters from 1
 /// to `letters`; `line` says which of its places are cells. Its counts, capped at 2^127, are
 /// correct for the sums in which each number is at most the number of `bound` at the same index, if
-/// there is one.
+/// there is one. The new states are made in the buffer `reached`.
 pub(crate) fn with_column(
     alloc: Global,
+    reached: &mut Vec<u16>,
     table: &States,
     letters: u16,
     line: &[bool],
@@ -43,7 +44,6 @@ pub(crate) fn with_column(
     // reuse the memory of the last table but one.
     let room = table.len().next_power_of_two();
     let mut next = Table::with_room(alloc, width, room)?;
-    let mut reached: Vec<u16> = Vec::with_capacity(alloc, width)?;
     for at in 0..table.len() {
         let (state, ways) = table.entry(at);
         let column = Column {
@@ -51,7 +51,7 @@ pub(crate) fn with_column(
             is_kept,
             ways: capped(ways),
         };
-        add_columns(&mut reached, &mut next, state, line, bound, column)?;
+        add_columns(reached, &mut next, state, line, bound, column)?;
     }
     Ok(next.into_states())
 }

@@ -20,7 +20,7 @@ loop-at-init c =
 pub with_column-requires-clause-reached : goal.with_column-requires-clause-reached
 with_column-requires-clause-reached c =
     let line : c.deref.result.now ≡ column_line c.loop-at.at c.args.outer.now c.args.inner.now =
-    c.deref.ensures.value ∙ c.in_ok-line.ensures
+    c.deref.ensures.value ∙ c.in_ok-write_line.ensures
     ∙ ap (λ o. column_line c.loop-at.at o c.args.inner.now) c.parts.ensures.value in
     (round_room c.args.letters (4096 - size c.args.outer.now) c.args.outer.now c.args.inner.now
     c.loop-at.table.entries c.loop-at.at c.deref.result.now
@@ -31,7 +31,7 @@ with_column-requires-clause-reached c =
 pub with_column-requires-clause-short : goal.with_column-requires-clause-short
 with_column-requires-clause-short c =
     let line : c.deref.result.now ≡ column_line c.loop-at.at c.args.outer.now c.args.inner.now =
-    c.deref.ensures.value ∙ c.in_ok-line.ensures
+    c.deref.ensures.value ∙ c.in_ok-write_line.ensures
     ∙ ap (λ o. column_line c.loop-at.at o c.args.inner.now) c.parts.ensures.value in
     (round_room c.args.letters (4096 - size c.args.outer.now) c.args.outer.now c.args.inner.now
     c.loop-at.table.entries c.loop-at.at c.deref.result.now
@@ -47,7 +47,7 @@ loop-at-preserved c =
     let at = c.loop-at.at in
     let falls = c.part-at.ensures.limits.partition.falls in
     let line : c.deref.result.now ≡ column_line at outer inner = c.deref.ensures.value
-    ∙ c.in_ok-line.ensures ∙ ap (λ o. column_line at o inner) c.parts.ensures.value in
+    ∙ c.in_ok-write_line.ensures ∙ ap (λ o. column_line at o inner) c.parts.ensures.value in
     record {
       within = omega (arith, c.loop-at.invariant.within);
       counts = round_counts n outer inner c.args.bound.now c.args.starts.entries

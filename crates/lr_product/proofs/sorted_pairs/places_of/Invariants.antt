@@ -9,5 +9,5 @@ invariant-loop-at l = record {
   end : l.at-end ≡ length l.table.entries;
   sums :
       (n : ℕ) (f : List ℕ → List ℕ → ℕ)
-      → sum_by (count_at n l.table.entries f) l.places.items ≡ weighed n f (take l.at l.table.entries);
+      → sum_by (λ (place : ℕ × ℕ). count_at n l.table.entries f place.1) l.places.items ≡ weighed n f (take l.at l.table.entries);
 }

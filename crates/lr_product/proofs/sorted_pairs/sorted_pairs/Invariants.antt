@@ -11,6 +11,6 @@ invariant-loop-k l = record {
   counts :
       (parts : List ℕ)
       → coefficient l.pairs.items parts
-      ≡ pos (sum_by (count_at l.letters l.table.entries (comes_to parts)) (take l.k l.places.items));
+      ≡ pos (sum_by (λ (place : ℕ × ℕ). count_at l.letters l.table.entries (comes_to parts) place.1) (take l.k l.places.items));
   small : AreSmallTerms l.pairs.items;
 }
