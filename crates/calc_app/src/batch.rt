@@ -55,12 +55,13 @@ pub(crate) fn batch<S: Source, K: Sink>(alloc: Global, source: &mut S, sink: &mu
     let Ok(mut memo) = new_memo(alloc) else {
         return Status::NoMemory;
     };
+    let mut words: Vec<String> = Vec::new(alloc);
     let mut progress = Progress {
         is_first: true,
         is_done: true,
     };
     loop {
-        match next_turn(alloc, &mut memo, &mut reader, source) {
+        match next_turn(alloc, &mut memo, &mut words, &mut reader, source) {
             Ok(Turn::Passed) => {
                 if !hand_on(&reader, sink) {
                     return Status::SinkFault;
@@ -89,11 +90,12 @@ pub(crate) fn new_memo(alloc: Global) -> Result<Memo, NoMemory>
 }
 
 /// Reads the next line and computes its outcome; `Passed` if the line is skipped, `Last` at the
-/// end.
+/// end. The words of the line are put into the buffer `words`.
 #[tactic(auto, using(batch_lines::proofs::NextLines::reads_at_most))]
 fn next_turn<S: Source>(
     alloc: Global,
     memo: &mut Memo,
+    words: &mut Vec<String>,
     reader: &mut LineReader,
     source: &mut S,
 ) -> Result<Turn, LineFault>
@@ -108,7 +110,7 @@ fn next_turn<S: Source>(
     ensures short { IfOk result (λ _. length reader.new.pending ≤ most_pending) }
 {
     match reader.next(source)? {
-        Next::Line => match line_outcome(alloc, memo, reader.line())? {
+        Next::Line => match line_outcome(alloc, memo, words, reader.line())? {
             None => Ok(Turn::Passed),
             Some(outcome) => Ok(Turn::Block { outcome }),
         },
@@ -119,15 +121,17 @@ fn next_turn<S: Source>(
     }
 }
 
-/// Computes the outcome of a line (`ComesOfLine`); None if the line is skipped.
+/// Computes the outcome of a line (`ComesOfLine`); None if the line is skipped. The words of the line
+/// are put into the buffer `words`.
 pub(crate) fn line_outcome(
     alloc: Global,
     memo: &mut Memo,
+    words: &mut Vec<String>,
     line: &[u8],
 ) -> Result<Option<Outcome>, NoMemory>
     ensures { IfOk result (ComesOfLine (batch_line line.now)) }
 {
-    match read_line(alloc, line) {
+    match read_line(alloc, words, line) {
         Ok(Some(command)) => {
             let outcome = reply_once(alloc, memo, command)?;
             Ok(Some(outcome))

@@ -49,9 +49,17 @@ fn sums_of(alloc: Global, lines: u16, seed: u32) -> Result<Sums, NoMemory>
     let mut text = GrowingSink::new(alloc);
     let mut sums = Sums::new();
     let mut memo = new_memo(alloc)?;
+    let mut words: Vec<String> = Vec::new(alloc);
     for _index in 0..lines {
         work_line(&mut state, &mut line);
-        add_line(alloc, &mut memo, line.as_bytes(), &mut text, &mut sums)?;
+        add_line(
+            alloc,
+            &mut memo,
+            &mut words,
+            line.as_bytes(),
+            &mut text,
+            &mut sums,
+        )?;
     }
     Ok(sums)
 }
@@ -61,6 +69,7 @@ fn sums_of(alloc: Global, lines: u16, seed: u32) -> Result<Sums, NoMemory>
 fn add_line(
     alloc: Global,
     memo: &mut Memo,
+    words: &mut Vec<String>,
     line: &[u8],
     text: &mut GrowingSink,
     sums: &mut Sums,
@@ -69,7 +78,7 @@ fn add_line(
     requires room { sums.old.lines < 65536 }
     ensures { IfOk result (λ _. AddsLine (batch_line line.now) sums.old sums.new) }
 {
-    match line_outcome(alloc, memo, line)? {
+    match line_outcome(alloc, memo, words, line)? {
         Some(outcome) => add_block(outcome, text, sums),
         None => Ok(()),
     }

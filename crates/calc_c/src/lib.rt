@@ -79,9 +79,10 @@ pub extern "C" fn calc_run(
     ensures untouched { length out.new < needed.new → out.new ≡ out.old }
 {
     *needed = 0;
-    let Ok(words) = line_words(alloc, line) else {
+    let mut words: Vec<String> = Vec::new(alloc);
+    if line_words(alloc, &mut words, line).is_err() {
         return Status::NoMemory.code();
-    };
+    }
     run_words(alloc, &words, input, out, needed).code()
 }
 

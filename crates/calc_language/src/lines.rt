@@ -27,7 +27,14 @@ const MOST_BYTES: usize = 4096;
 /// more than 4,096 bytes, with that carriage return, is refused as `Range` at byte 4,096 of word 0.
 /// The words of any other line are read as by `read_words`, except that `batch` and `work` are no
 /// commands of a line.
-pub fn read_line(alloc: Global, line: &[u8]) -> Result<Option<Command>, WordsFault>
+///
+/// The words of the line are put into the buffer `words`, whose contents before do not matter, so
+/// that their memory can be used again for the next line.
+pub fn read_line(
+    alloc: Global,
+    words: &mut Vec<String>,
+    line: &[u8],
+) -> Result<Option<Command>, WordsFault>
     ensures read { IsLineRead (batch_line line.now) result }
     ensures within { IfOk result KeepsItsLimits }
     ensures long { batch_line line.now ≡ too_long → Refuses too_long_offence result }
@@ -42,12 +49,16 @@ pub fn read_line(alloc: Global, line: &[u8]) -> Result<Option<Command>, WordsFau
         → batch_line line.now ≡ spoken words
         → IsSyntaxPlace line_entries words word byte → GoesWrong word byte result }
 {
-    read(alloc, line)
+    read(alloc, words, line)
 }
 
 /// Reads a line of a batch. `read_line` calls this function; the contract of `read_line` also
 /// states the consequences for each kind of line.
-fn read(alloc: Global, line: &[u8]) -> Result<Option<Command>, WordsFault>
+fn read(
+    alloc: Global,
+    words: &mut Vec<String>,
+    line: &[u8],
+) -> Result<Option<Command>, WordsFault>
     ensures { IsLineRead (batch_line line.now) result }
 {
     if line.len() > MOST_BYTES {
@@ -58,7 +69,7 @@ fn read(alloc: Global, line: &[u8]) -> Result<Option<Command>, WordsFault>
             },
         });
     }
-    let words = line_words(alloc, without_return(line))?;
+    line_words(alloc, words, without_return(line))?;
     if are_passed_over(words.as_slice()) {
         return Ok(None);
     }

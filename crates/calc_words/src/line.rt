@@ -1,5 +1,6 @@
 //! The words of a line of a batch, and the lines that are skipped.
-ghost use Rattle.std.specs.Prelude.{◌≡◌, ◌++◌, ◌∷◌, [], IfOk, OnOk, map, string_bytes};
+ghost use Rattle.std.specs.Prelude.{◌≡◌, ◌<◌, ◌≤◌, ◌++◌, ◌∷◌, [], IfOk, OnOk, map, string_bytes};
+ghost use Rattle.std.specs.Prelude.{get_or, take, length};
 ghost use Rattle.sym_model.specs.BatchLine.{words_of_line, without_return as line_without_return};
 ghost use Rattle.calc_words.specs.LineBytes.{seen, seen_byte, word_with_bytes};
 ghost use Rattle.calc_words.specs.LineBytes.{is_space as is_space_byte, is_passed_over};
@@ -30,35 +31,58 @@ fn add_byte(word: &mut String, byte: u8) -> Result<(), NoMemory>
     Ok(())
 }
 
-/// Appends the word to the list of words unless it is empty.
-fn end_word(words: &mut Vec<String>, word: String) -> Result<(), NoMemory>
-    ensures { OnOk result (map string_bytes words.new.items
-        ≡ map string_bytes words.old.items ++ word_with_bytes (string_bytes word)) }
+/// Makes the word at the index `at` empty; appends an empty word if there is none at this index.
+fn start_word(alloc: Global, words: &mut Vec<String>, at: usize) -> Result<(), NoMemory>
+    requires { at ≤ length words.old.items }
+    ensures front { OnOk result (take at (map string_bytes words.new.items)
+        ≡ take at (map string_bytes words.old.items)) }
+    ensures empty { OnOk result (get_or (map string_bytes words.new.items) at [] ≡ []) }
+    ensures within { OnOk result (at < length words.new.items) }
 {
-    if !word.is_empty() {
-        words.push(word)?;
+    if at < words.len() {
+        words[at].clear();
+        return Ok(());
     }
+    words.push(String::new(alloc))?;
     Ok(())
 }
 
-/// The words of a line, separated by spaces and tabs, with `?` for each byte outside ASCII. No word
-/// of a command has a byte outside ASCII or a `?`.
-pub fn line_words(alloc: Global, line: &[u8]) -> Result<Vec<String>, NoMemory>
-    ensures { IfOk result (λ words. map string_bytes words.items
+/// Ends the word at the index `done`, and makes the next one empty; does nothing if the word is
+/// empty. Returns the number of words that have ended.
+fn end_word(alloc: Global, words: &mut Vec<String>, done: usize) -> Result<usize, NoMemory>
+    requires { done < length words.old.items }
+    ensures ended { IfOk result (λ n. take n (map string_bytes words.new.items)
+        ≡ take done (map string_bytes words.old.items)
+        ++ word_with_bytes (get_or (map string_bytes words.old.items) done [])) }
+    ensures empty { IfOk result (λ n. get_or (map string_bytes words.new.items) n [] ≡ []) }
+    ensures within { IfOk result (λ n. n < length words.new.items) }
+{
+    if words[done].is_empty() {
+        return Ok(done);
+    }
+    start_word(alloc, words, done + 1)?;
+    Ok(done + 1)
+}
+
+/// Makes `words` the words of a line, separated by spaces and tabs, with `?` for each byte outside
+/// ASCII. No word of a command has a byte outside ASCII or a `?`. The memory of the words before is
+/// used again.
+pub fn line_words(alloc: Global, words: &mut Vec<String>, line: &[u8]) -> Result<(), NoMemory>
+    ensures { OnOk result (map string_bytes words.new.items
         ≡ map seen (words_of_line line.now)) }
 {
-    let mut words = Vec::with_capacity(alloc, 8)?;
-    let mut word = String::new(alloc);
+    start_word(alloc, words, 0)?;
+    let mut done: usize = 0;
     for byte in line {
         if is_space(*byte) {
-            end_word(&mut words, word)?;
-            word = String::new(alloc);
+            done = end_word(alloc, words, done)?;
             continue;
         }
-        add_byte(&mut word, *byte)?;
+        add_byte(&mut words[done], *byte)?;
     }
-    end_word(&mut words, word)?;
-    Ok(words)
+    done = end_word(alloc, words, done)?;
+    words.truncate(done);
+    Ok(())
 }
 
 /// The line without the carriage return at its end, if there is one.

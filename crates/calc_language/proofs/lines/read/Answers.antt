@@ -12,11 +12,11 @@ use Rattle.calc_language.proofs.lines.read.Goals as goal
 pub returns : goal.returns
 returns c =
     let line = c.args.line.now in
-    let kept = map string_bytes c.in_ok-words.words.items in
+    let kept = map string_bytes c.line_words.new.words.items in
     let command = c.in_ok-command.command in
     let short : nat_lt most_bytes (length line) ≡ false = le-ltb most_bytes (length line)
     (omega (arith, c.if-line-gt-MOST_BYTES.false)) in
-    let same = c.in_ok-words.ensures ∙ ap (λ l. map seen (words_of_line l)) c.without_return.ensures
+    let same = c.in_ok-line_words.ensures ∙ ap (λ l. map seen (words_of_line l)) c.without_return.ensures
     in
     let some : is_passed_over kept ≡ false =
     sym (ap (λ xs. is_passed_over (map string_bytes xs)) c.as_slice.ensures.value)
@@ -28,13 +28,13 @@ returns c =
 pub returns-in_err-command : goal.returns-in_err-command
 returns-in_err-command c =
     let line = c.args.line.now in
-    let kept = map string_bytes c.in_ok-words.words.items in
+    let kept = map string_bytes c.line_words.new.words.items in
     let fault = c.in_err-command.field-0.0 in
     let p = err_from_is_err_and c.from_residual-in_err-command.result
     c.from_residual-in_err-command.ensures.1 in
     let short : nat_lt most_bytes (length line) ≡ false = le-ltb most_bytes (length line)
     (omega (arith, c.if-line-gt-MOST_BYTES.false)) in
-    let same = c.in_ok-words.ensures ∙ ap (λ l. map seen (words_of_line l)) c.without_return.ensures
+    let same = c.in_ok-line_words.ensures ∙ ap (λ l. map seen (words_of_line l)) c.without_return.ensures
     in
     let some : is_passed_over kept ≡ false =
     sym (ap (λ xs. is_passed_over (map string_bytes xs)) c.as_slice.ensures.value)
