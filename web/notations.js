@@ -229,6 +229,7 @@ Term "an expression" = Factor
   | Term *|· Factor -> timesText
   | Term ∗ Factor -> ? timesText  # or the internal product
   | Term Power -> beside  # h_3 e_2, 2 s_1; h_3(h_2) can be a plethysm
+  | Term Det -> timesText
   | Term Scalar -> ! timesText  # h[2]^{2}3
 Sum "an expression" = Term
   | Term Squared -> powerOf
