@@ -10,8 +10,7 @@ const eitherOf = (...values) => anyOf(...values.map((value) => ({ value })));
 const cutShort = { is: false, why: "" };
 const tooMuch = (why = "") => ((cutShort.is = true), (cutShort.why ||= why), null);
 
-const isPlain = (number) => !/^0\d/.test(number);
-const isDigits = (number) => /^[1-9]+$/.test(number);
+const isPlain = (number) => !/^0\d/.test(number), isDigits = (number) => /^[1-9]+$/.test(number);
 const copies = (number, times) => (Number(times) <= LIMITS.cells ? Array(Number(times)).fill(number) : tooMuch());
 const joined = (...lists) => (!lists.every(Boolean) ? null : lists.reduce((sum, it) => sum + it.length, 0) <= LIMITS.cells ? [].concat(...lists) : tooMuch());
 const few = (lists) => (lists.length <= LIMITS.factors ? lists : tooMuch());
@@ -21,12 +20,12 @@ const isPartition = (list) => list && isDecreasing(list);
 const isNumber = (list) => list.length === 1 && list.how === "bare";
 const sizeOfAll = (lists) => sumOf(lists.flat());
 
-/** Digits as numbers, zeros only at the end, or as one number, with an exponent: it is that of the last digit, or of the whole number; without braces it has one digit or all. */
+/** Digits as numbers, zeros only at the end, or as one number, with an exponent: it is that of the last digit, or of the whole number; without braces it has one digit or all, and 1^22 can be 2 1^2. */
 function digitsWithPower(base, exponent, isBraced) {
   const isCut = !isBraced && exponent.length > 1 && isDigits(exponent), ends = [[exponent, []], ...(isCut ? [[exponent[0], [...exponent.slice(1)]]] : [])];
-  const isOne = base.length === 1, isApart = isDigits(base), isLong = exponent === "1" && /^[1-9]{1,15}0{1,9}$/.test(base);
-  const apart = ([times, rest]) => (isOne || isApart || isLong) && { value: isLong ? typedWith("digits", base) : joined([...base.slice(0, -1)], copies(base[base.length - 1], times), rest), digits: isOne ? 0 : 1 };
-  const whole = ([times, rest]) => !isOne && isPlain(base) && { value: joined(copies(base, times), rest), digits: isApart ? 2 : 0 };
+  const isOne = base.length === 1, isApart = isDigits(base), isDoubt = isCut && exponent[0] > 1 && exponent[1] > base.slice(-1), isLong = exponent === "1" && /^[1-9]{1,15}0{1,9}$/.test(base);
+  const apart = ([times, rest]) => (isOne || isApart || isLong) && { value: isLong ? typedWith("digits", base) : joined([...base.slice(0, -1)], copies(base[base.length - 1], times), rest), digits: isOne ? 0 : 1, isDoubt };
+  const whole = ([times, rest]) => !isOne && isPlain(base) && { value: joined(copies(base, times), rest), digits: isApart ? 2 : 0, isDoubt };
   return anyOf(...ends.flatMap((it) => [apart(it), whole(it)]));
 }
 
@@ -202,7 +201,8 @@ const MEANINGS = {
   addAll: (list, more) => few(typedWith(list.how, [...list, ...more])),
   addAs: (how, list, more) => MEANINGS.addAll(typedWith((list.how ?? how) === how ? how : "", list), more),
   listPower: (list, [times, rest]) => (rest || Number(times) < 1 ? null : Number(times) > LIMITS.factors ? tooMuch() : Array(Number(times)).fill(list)),
-  // expressions
+  // expressions (a function before a parenthesis can be a plethysm)
+  beside: (a, b, value = timesText(a, b)) => anyOf({ value, isDoubt: b.text[0] === "(" && /\]\)*$/.test(a.text) }),
   atom: (family, list) => (isPartition(list) && !(family === "p" && list.join() === "0") && !(/[hep]/.test(family) && list.how === "digits" && list[1] && list[list.length - 1] === "0") ? expression(atomText(family, list), [[family, list]], { isCalled: list.how === "called" }) : null),
   named: (family, it) => (it.atoms[0][0] === family ? it : null),
   omega: (family, list) => {

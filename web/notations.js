@@ -228,7 +228,8 @@ Factor "a factor" = Power|Scalar
 Term "an expression" = Factor
   | Term *|· Factor -> timesText
   | Term ∗ Factor -> ? timesText  # or the internal product
-  | Term Power -> timesText  # h_3 e_2, 2 s_1
+  | Term Power -> beside  # h_3 e_2, 2 s_1; h_3(h_2) can be a plethysm
+  | Term Det -> timesText
   | Term Scalar -> ! timesText  # h[2]^{2}3
 Sum "an expression" = Term
   | Term Squared -> powerOf
@@ -339,8 +340,8 @@ SVars = SVar -> list
   | SVar Exp -> listPower
   | SVars *|·|⊗? SVar -> add
 Product = symmetrica . mult_schur_schur|outerproduct_schur ( Lams )
-  | littlewood - richardson product|rule of? for? Both
-  | LR|lr product|rule of? for? Both
+  | LrRule Both
+  | pieri rule|formula of|for|:? Both
   | product of? NUM? schur functions :? Both -> 7
 SchurProduct = schur functions? product of|:? -> ""
   | outer product of|:? -> ""
@@ -445,8 +446,7 @@ Monomial = XPower
 XPower = XLetter -> part
   | XLetter Degree -> part
 OfMonomial = Monomial -> monomial
-CoefName = LR coefficient|number -> ""
-  | littlewood - richardson coefficient|number -> ""
+CoefName = LrName coefficient|number -> ""
 Coefficient = c Above Down2 -> coef
   | c Down2 Above -> coef 3 2
   | c|LR ~( Cell ; Cells ) -> coef 3 5
@@ -641,6 +641,7 @@ FlagClasses = FlagClass Dot? FlagClass -> list
   | FlagClass Exp -> listPower
 FlagPair = FlagClass By FlagClass -> list
 Monk = schubert structure constants|coefficients of|for|:? -> ""
+  | monk rule|formula? of|for|:? -> ""
   | schubert polynomials? product|multiplication of|for|:? -> ""
 OfW = w = -> ""
   | F ~_ w for|with w = -> ""
@@ -649,7 +650,7 @@ OrCode = Round -> orCode
 InSchubert = In schubert polynomials|basis|classes -> ""
 Question = SPolys -> schubertProduct
   | Convert? SPolys InSchubert -> schubertProduct 2
-  | RuleOf WOther -> permuted schubmult
+  | Monk WOther -> permuted schubmult
   | InFlags :|, SPolys -> inFlags 3 1
   | FlagClasses -> ? permuted schubmult
   | FlagClasses InFlags -> ? inFlags  # of u, or of w_0 u
@@ -1202,8 +1203,7 @@ Command = unrsk Tableau -? Tableau -> unrsk
   | rect ( Lams , Tableau ) -> shaped rect -
   | tab|lrtab Shape -> shaped tab ""
   | tab Shape -from Tableau -> shaped tab -from
-LrTableaux = LR|lr skew? Tableaux -> ""
-  | littlewood - richardson skew? Tableaux -> ""
+LrTableaux = LrName skew? Tableaux -> ""
   | yamanouchi Tableaux -> ""
   | reverse? lattice word? Tableaux -> ""
 Tableaux = tableaux|tableau|fillings -> ""
@@ -1246,10 +1246,10 @@ Conjugate = conjugate|transpose of? Arg -> conjugate
 
 Line = LrCalc|Command|Asked
   | Line , on one line -> onOneLine
-RuleOf = pieri|monk|newton rule|formula|identity|identities? of|for|:? -> ""
-  | LrName product|rule|expansion|decomposition of|for|:? -> ""
+RuleOf = pieri|newton rule|formula|identity|identities? of|for|:? -> ""
   | decomposition of -> ""
-  | Monk -> ""
+  | LrRule|Monk -> ""
+LrRule = LrName product|rule|expansion|decomposition of|for|:? -> ""
 Asked = Question
   | Ask Asked
   | RuleOf Asked -> ofRule
