@@ -73,6 +73,17 @@ def rows_and_columns(calc, rng):
         yield f"coef {outer} - {left} - {right}", printed(calc, "coef", *outer, "-", *left, "-", *right), f"{theirs[outer]}\n"
 
 
+def rows_of_labels(calc, rng):
+    """Large products of two factors, which are listed by the rows of their labels, and like ones that are counted by columns; the factor with fewer
+    parts has 9 to 16 of them in the last ones."""
+    factors = [(staircase(5), (width, width)) for width in (5, 6)]
+    factors += [(staircase(6), (width, 3, 1)) for width in (6, 8, 10)]
+    factors += [((*shape, *[1] * (rows - len(shape))), (2,) * rows) for shape in (staircase(8), staircase(9)) for rows in (9, 12, 16)]
+    for left, right in factors:
+        words = [*left, "-", *right]
+        yield f"mult {left} - {right}", terms(printed(calc, "mult", *words)), terms(printed("lrcalc", "mult", *words))
+
+
 def skews(calc, rng):
     for i in range(100):
         outer = random_partition(rng, rng.randint(1, 24)) if i % 3 else staircase(rng.randint(3, 6))
@@ -161,7 +172,8 @@ def several_factors(calc, rng):
 
 
 KINDS = {"products": products, "rows_and_columns": rows_and_columns, "skews": skews, "coproducts": coproducts, "tableaux": tableaux,
-         "reductions": reductions, "permutations": permutations, "several_factors": several_factors}
+         "reductions": reductions, "permutations": permutations, "several_factors": several_factors,
+         "rows_of_labels": rows_of_labels}
 
 
 def main():

@@ -22,6 +22,12 @@ pub(crate) fn are_rows_faster(inner: &Partition, content: &Partition) -> bool {
         (content, inner)
     };
     let width = usize::from(added.part(1));
+    let cells = usize::from(start.size());
+    // A partition with c different parts has at least c(c + 1)/2 cells. So few cells decide before
+    // parts are compared.
+    if width.saturating_mul(cells).saturating_mul(2) < LEAST_QUOTIENT.saturating_mul(3) {
+        return false;
+    }
     let least = LEAST_QUOTIENT.saturating_mul(corners(content).saturating_add(2));
     width
         .saturating_mul(corners(start))
