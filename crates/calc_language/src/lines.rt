@@ -54,11 +54,7 @@ pub fn read_line(
 
 /// Reads a line of a batch. `read_line` calls this function; the contract of `read_line` also
 /// states the consequences for each kind of line.
-fn read(
-    alloc: Global,
-    words: &mut Vec<String>,
-    line: &[u8],
-) -> Result<Option<Command>, WordsFault>
+fn read(alloc: Global, words: &mut Vec<String>, line: &[u8]) -> Result<Option<Command>, WordsFault>
     ensures { IsLineRead (batch_line line.now) result }
 {
     if line.len() > MOST_BYTES {

@@ -22,12 +22,13 @@ loop-byte-preserved c =
     (let l = length-map items string_bytes in omega arith) in
     let more : string_bytes longer ≡ get_or (map string_bytes items) done []
     ++ seen_byte (get_or c.args.line.now c.loop-byte.byte-index 0) ∷ [] =
-    search (rules, get_or-map) in
-    (rw (front, word)
-    (byte_read c.args.line.now c.loop-byte.byte-index (take done (map string_bytes items))
-    (get_or (map string_bytes items) done []) (string_bytes longer)
-    (omega (arith, c.loop-byte-test.true)) (search rules) more c.loop-byte.invariant.0),
-    (let l = length-set items done longer in omega arith))
+    search (rules, get_or-map) in (
+      rw (front, word)
+          (byte_read c.args.line.now c.loop-byte.byte-index (take done (map string_bytes items))
+          (get_or (map string_bytes items) done []) (string_bytes longer)
+          (omega (arith, c.loop-byte-test.true)) (search rules) more c.loop-byte.invariant.0),
+      (let l = length-set items done longer in omega arith),
+    )
 
 pub returns : goal.returns
 returns c =
