@@ -80,9 +80,9 @@ pub extern "C" fn calc_run(
 {
     *needed = 0;
     let mut words: Vec<String> = Vec::new(alloc);
-    if line_words(alloc, &mut words, line).is_err() {
+    let Ok(()) = line_words(alloc, &mut words, line) else {
         return Status::NoMemory.code();
-    }
+    };
     run_words(alloc, &words, input, out, needed).code()
 }
 
