@@ -282,7 +282,7 @@ const MEANINGS = {
   orCode: (list, cycle = cycled([list])) => anyOf({ value: list }, { value: list[1] && cycle }, { value: cycle && ofCode(list), isDoubt: true }),
   orSimple: (w) => eitherOf(w, w.join() === "1" && ["2", "1"]),
   cycles: (all) => (all.some((it) => it[1]) ? eitherOf(cycled(all), cycled([...all].reverse())) : null),
-  simple: (all) => eitherOf(...[all, [...all].reverse()].map((it) => cycled(it.map((i) => [i, String(Number(i) + 1)]))), all.length === 1 && all),
+  simple: (all) => eitherOf(...[all, [...all].reverse()].map((it) => (it.every(Number) ? cycled(it.map((i) => [i, String(Number(i) + 1)])) || tooMuch() : null)), all.length === 1 && all),
   permuted: (name, ...given) => {
     const lists = given.flatMap((it) => (typeof it[0] === "string" ? [it] : it));
     return areLetters(lists) && lists.length === (name.endsWith("mult") ? 2 : 1) ? reading(name, between(lists)) : null;

@@ -597,7 +597,7 @@ Question = χ Above ~( Inside ) -> characterOf  # χ^{31}(22)
 PSub = Inside -> orSimple
   | Simple -> simple
   | OrCode|Square
-Digit = NUM -> digits
+Digit "a number" = NUM -> digits
 Perm "a permutation" = ~_ ~{ PSub }
   | ~_ ~Digit -> orSimple
   | ~_ ~OrCode|Square
