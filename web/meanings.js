@@ -112,7 +112,7 @@ function coefficientAt(family, list, it) {
   const lists = it.atoms && listsOfAtoms(it), isZero = Boolean(lists) && sizeOfAll(lists) !== sumOf(list);
   if (family === "s" && schurFactors(it)) return lists.length === 2 ? coefOf([list, ...lists]) : asking(productOf(lists), { kind: "c", at: list }, isZero);
   if (family === "s" && isProductOf("h", it)) return kostkaOf(list, descending(lists.flat()));
-  if (family === "s" && isProductOf("p", it)) return characterOf(list, descending(lists.flat()));
+  if (family === "s" && !isZero && isProductOf("p", it)) return characterOf(list, descending(lists.flat()));
   return hasFunction(it.text) ? asking(reading("expand", family, it.text), { kind: "c", at: list }, isZero) : null;
 }
 const OMEGA = { s: "s", h: "e", e: "h", p: "p" };
