@@ -112,7 +112,7 @@ function coefficientAt(family, list, it) {
   const lists = it.atoms && listsOfAtoms(it), isZero = Boolean(lists) && sizeOfAll(lists) !== sumOf(list);
   if (family === "s" && schurFactors(it)) return lists.length === 2 ? coefOf([list, ...lists]) : asking(productOf(lists), { kind: "c", at: list }, isZero);
   if (family === "s" && isProductOf("h", it)) return kostkaOf(list, descending(lists.flat()));
-  if (family === "s" && isProductOf("p", it)) return characterOf(list, descending(lists.flat()));
+  if (family === "s" && !isZero && isProductOf("p", it)) return characterOf(list, descending(lists.flat()));
   return hasFunction(it.text) ? asking(reading("expand", family, it.text), { kind: "c", at: list }, isZero) : null;
 }
 const OMEGA = { s: "s", h: "e", e: "h", p: "p" };
@@ -271,18 +271,18 @@ const MEANINGS = {
   orSize: (list) => doubtful({ isAlone: !list[1] && list.how }, standardOf(list)),
   standardSkew: ([outer, inner]) => (isPartition(outer) && isPartition(inner) && sumOf(inner) <= sumOf(outer) ? kostkaSkew([outer, inner], copies("1", sumOf(outer) - sumOf(inner))) : null),
   ofSize: (letters, it) => (sumOf(it.flat()) === Number(letters) ? it : null),
-  characterOf: (list, mu) => eitherOf(characterOf(list, mu), mu.join() === "1" && sumOf(list) > 1 ? standardOf(list) : characterOf(list, withFixed(mu, sumOf(list)))),
+  // (a class whose fixed letters are left out is that with them: by its sizes alone the other is 0, and not asked)
+  characterOf: (list, mu, full = mu.join() === "1" && sumOf(list) > 1 ? standardOf(list) : characterOf(list, withFixed(mu, sumOf(list)))) => doubtful({ isAlone: full }, full) || characterOf(list, mu),
   characterAtCycle: (list, cycle) => (Number(cycle) <= sumOf(list) ? characterOf(list, [cycle, ...(copies("1", sumOf(list) - Number(cycle)) || [])]) : null),
   characterOnly: (list) => (isPartition(list) ? eitherOf(standardOf(list), reading("expand p", atomText("s", list))) : null),
   inner: (a, b) => scalarProduct(a, b) || scalarProduct(b, a),
   // permutations
   roundPermutation: (list) => eitherOf(list, cycled([list])),
-  // (a list in parentheses as an index is one-line notation, a cycle or a code of Lehmer; 1 is the identity or s_1)
-  orCode: (list) => eitherOf(list, cycled([list]), cycled([list]) && ofCode(list)),
+  // (a list in parentheses is one-line notation, a cycle of two letters or more, or a code of Lehmer; 1 is the identity or s_1)
+  orCode: (list, cycle = cycled([list])) => anyOf({ value: list }, { value: list[1] && cycle }, { value: cycle && ofCode(list), isDoubt: true }),
   orSimple: (w) => eitherOf(w, w.join() === "1" && ["2", "1"]),
-  roundPair: (a, b) => eitherOf([a, b], [cycled([a]), cycled([b])]),
-  cycles: (all) => eitherOf(cycled(all), cycled([...all].reverse())),
-  simple: (all) => eitherOf(...[all, [...all].reverse()].map((it) => cycled(it.map((i) => [i, String(Number(i) + 1)]))), all.length === 1 && all),
+  cycles: (all) => (all.some((it) => it[1]) ? eitherOf(cycled(all), cycled([...all].reverse())) : null),
+  simple: (all) => eitherOf(...[all, [...all].reverse()].map((it) => (it.every(Number) ? cycled(it.map((i) => [i, String(Number(i) + 1)])) || tooMuch() : null)), all.length === 1 && all),
   permuted: (name, ...given) => {
     const lists = given.flatMap((it) => (typeof it[0] === "string" ? [it] : it));
     return areLetters(lists) && lists.length === (name.endsWith("mult") ? 2 : 1) ? reading(name, between(lists)) : null;

@@ -596,15 +596,12 @@ Question = χ Above ~( Inside ) -> characterOf  # χ^{31}(22)
 # ---------------------------------------------------------------- Schubert polynomials
 PSub = Inside -> orSimple
   | Simple -> simple
-  | Round -> orCode
-  | Square
-Digit = NUM -> digits
+  | OrCode|Square
+Digit "a number" = NUM -> digits
 Perm "a permutation" = ~_ ~{ PSub }
   | ~_ ~Digit -> orSimple
-  | ~_ ~Round -> orCode
-  | ~_ ~Square
-  | ~Square
-  | ~Round -> orCode
+  | ~_ ~OrCode|Square
+  | ~OrCode|Square
   | ~( Square )
   | ~[ { Inside } ]
   | ~NUM -> digits
@@ -673,7 +670,6 @@ Question = SPolys -> schubertProduct
   | lrcalc . mult_schubert WOther -> permuted schubmult
   | product of? schubert polynomials of? for? WOther -> permuted schubmult
   | schubert polynomials of? for? OfW? WPerm -> permuted schubert 6
-  | schubert polynomials of? for? OfW? OrCode -> permuted schubert 6
   | F Perm -> ? stanleyOf  # F_{321}: of Stanley, of w or of its inverse, or fundamental
   | F Perm InVariables -> ? stanleyOf
   | Convert? F Perm InSchur -> ? stanleyOf
@@ -1083,25 +1079,25 @@ Command = quantum QWhere ,|:? Factors -> productIn 4 2
   | fusion ( NUM , NUM ) Factors -> ! fusionOf 7 3 5
   | fusion NUM Factors -> ! fusionOf 3 2
   | fusion Factors -> ! fusionOf
-WPerm "a permutation" = Square
+WPerm "a permutation" = WLetters|OrCode  # (4,2): a cycle, or a code
+WLetters = Square
   | permutation ( Square )
   | ( permutation ( Square ) )
   | ( { Inside } )
   | { Inside }
-  | Cycles|Compact|Commas|Blanks
+  | Compact|Commas|Blanks
+  | CycleList -> cycles  # (1 2)(2 3): from the right, or from the left
   | ( Square )
   | Sch Perm
   | σ ~Index -> ! 2
   | Simple -> simple
-Simple = s ~_ ~NUM -> list  # s_1 s_2: simple transpositions
-  | Simple *|·? s ~_ ~NUM -> add
-Cycles = Round -> roundPermutation
-  | CycleList -> cycles  # (1 2)(2 3): from the right, or from the left
+Simple = s ~_ ~Digit  # s_1 s_2: simple transpositions; s_12: these two, or one
+  | Simple *|·? s ~_ ~Digit -> join
 CycleList = Round Round -> list
   | CycleList Round -> add
 WOther "two permutations" = ( Square , Square ) -> list
   | ( Compact , Compact ) -> list
-  | ( Round , Round ) -> roundPair
+  | ( OrCode , OrCode ) -> list
   | WPerm ␣- ␣WPerm -> list
   | WPerm *|· WPerm -> list
   | WPerm WPerm -> list
@@ -1115,19 +1111,20 @@ Command = schubert WPerm -> permuted schubert
   | stanley InVariables WPerm -> stanleyOf 3 2
   | stanley ( NUM , WPerm ) -> stanleyOf 5 3
   | rsk Word -> rsk
-Word "a word" = WPerm
-  | w = WPerm
+Word "a word" = WLetters
+  | Round -> roundPermutation
+  | w = Word
   | word? Blanks -> lettersOf  # 11 22: the word 1122, too
   | word InTurn
-  | permutation WPerm
+  | permutation Word
   | empty word -> list
 Question = fomin? growth diagram of? for? permutation? OfW? WPerm -> permuted growth 8
   | permutation ( Square ) . robinson_schensted|left_tableau|right_tableau ( ) -> rsk
-  | P ~( WPerm ) ,|and Q ~( WPerm ) -> ? rskTwice  # or functions P and Q
+  | P ~( Word ) ,|and Q ~( Word ) -> ? rskTwice  # or functions P and Q
   | ( P , Q ) of|for Word -> rsk
   | Rsk of|for|to|on? Word -> rsk
   | P and|, Q tableaux|tableau? of|for Word -> rsk
-  | P|Q ~( WPerm ) -> ? rsk  # or a function P of Hall and Littlewood
+  | P|Q ~( Word ) -> ? rsk  # or a function P of Hall and Littlewood
 InTurn = Inside|Round|Square|Part
 Rsk = rsk correspondence|insertion|tableaux? -> ""
   | row|schensted insertion|insert -> ""
