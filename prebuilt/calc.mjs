@@ -133,7 +133,7 @@ function moduleBeside() {
   const [packed] = /H4sI[A-Za-z0-9+/]+=*/.exec(page) || [""];
   try {
     const bytes = zlib.gunzipSync(Buffer.from(packed, "base64"));
-    if (crypto.createHash("sha256").update(bytes).digest("hex") === "5fb5c263f7776f1623523d3fc31b891ad4a1d18f60ab0bfa66b522f6dbb6ed32") return bytes;
+    if (crypto.createHash("sha256").update(bytes).digest("hex") === "fa3a844a4dd4dd051c496c560c4b466aeb1085e34acc069636b629aa2c14d107") return bytes;
   } catch {
     // (no module, as another one, is not that of this file)
   }
