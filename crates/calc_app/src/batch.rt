@@ -16,7 +16,7 @@ ghost use Rattle.calc_replies.specs.Computed.{status_for};
 
 use batch_lines::{LineFault, LineReader, Next, Progress, at_end, finished, separator};
 use calc_base::{NoMemory, Place, Sink, Source, Status, WordsFault};
-use calc_language::{Command, read_line};
+use calc_language::{Command, read_line_by};
 use calc_replies::{Outcome, put_text, reply_by, status_if_put};
 use schubert_transition::Memo;
 use std::alloc::Global;
@@ -131,7 +131,7 @@ pub(crate) fn line_outcome(
 ) -> Result<Option<Outcome>, NoMemory>
     ensures { IfOk result (ComesOfLine (batch_line line.now)) }
 {
-    match read_line(alloc, words, line) {
+    match read_line_by(alloc, words, line) {
         Ok(Some(command)) => {
             let outcome = reply_once(alloc, memo, command)?;
             Ok(Some(outcome))

@@ -36,6 +36,6 @@ mod words;
 pub use calc_base::WordsFault;
 pub use calc_words::Command;
 pub use expression_reading::{Basis, Expr, Formula, Weight, degree_limit};
-pub use lines::read_line;
+pub use lines::{read_line, read_line_by};
 pub use partitions::Factors;
 pub use words::read_words;

@@ -27,14 +27,7 @@ const MOST_BYTES: usize = 4096;
 /// more than 4,096 bytes, with that carriage return, is refused as `Range` at byte 4,096 of word 0.
 /// The words of any other line are read as by `read_words`, except that `batch` and `work` are no
 /// commands of a line.
-///
-/// The words of the line are put into the buffer `words`, whose contents before do not matter, so
-/// that their memory can be used again for the next line.
-pub fn read_line(
-    alloc: Global,
-    words: &mut Vec<String>,
-    line: &[u8],
-) -> Result<Option<Command>, WordsFault>
+pub fn read_line(alloc: Global, line: &[u8]) -> Result<Option<Command>, WordsFault>
     ensures read { IsLineRead (batch_line line.now) result }
     ensures within { IfOk result KeepsItsLimits }
     ensures long { batch_line line.now ≡ too_long → Refuses too_long_offence result }
@@ -49,11 +42,25 @@ pub fn read_line(
         → batch_line line.now ≡ spoken words
         → IsSyntaxPlace line_entries words word byte → GoesWrong word byte result }
 {
+    let mut words: Vec<String> = Vec::new(alloc);
+    read(alloc, &mut words, line)
+}
+
+/// Reads a line of a batch, as `read_line`, whose contract also states the consequences for each
+/// kind of line. The words of the line are put into the buffer `words`, whose contents before do not
+/// matter, so that their memory can be used again for the next line.
+pub fn read_line_by(
+    alloc: Global,
+    words: &mut Vec<String>,
+    line: &[u8],
+) -> Result<Option<Command>, WordsFault>
+    ensures read { IsLineRead (batch_line line.now) result }
+    ensures within { IfOk result KeepsItsLimits }
+{
     read(alloc, words, line)
 }
 
-/// Reads a line of a batch. `read_line` calls this function; the contract of `read_line` also
-/// states the consequences for each kind of line.
+/// Reads a line of a batch, as `read_line_by`.
 fn read(alloc: Global, words: &mut Vec<String>, line: &[u8]) -> Result<Option<Command>, WordsFault>
     ensures { IsLineRead (batch_line line.now) result }
 {
