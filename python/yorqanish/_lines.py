@@ -9,6 +9,7 @@ from collections import deque
 from concurrent.futures import Future
 from contextlib import suppress
 from functools import partial
+from importlib import import_module
 from itertools import islice
 from queue import SimpleQueue
 from typing import Any, Callable, Deque, Dict, Generator, Generic, Iterable, Iterator, List, NamedTuple, Optional, Tuple, TypeVar, Union
@@ -251,9 +252,8 @@ def blocks(outcomes: Iterable[Outcome], progress: Union[bool, Callable[[int], No
     tell, is_line, said = None if isinstance(progress, bool) else progress, progress is True, 0.0
     if is_line:
         with suppress(ImportError):
-            from tqdm import tqdm  # type: ignore
-
-            outcomes, is_line = tqdm(outcomes, total=total, unit=" lines"), False
+            # (by a call: of an import, mypy says one thing if tqdm is installed, and another if not)
+            outcomes, is_line = import_module("tqdm").tqdm(outcomes, total=total, unit=" lines"), False
     for done, outcome in enumerate(outcomes, 1):
         if is_line and sys.stderr.isatty() and (done == total or time.monotonic() - said > 0.1):
             said = time.monotonic()
