@@ -275,7 +275,8 @@ def test_ctrl_c_while_processes_are_ended():
 
     signal.signal(signal.SIGALRM, interrupt)
     until = time.monotonic() + 8
-    while time.monotonic() < until or hits <= 50:
+    # (not more than a hundred: between a call of the system and the assignment of what it gave, an interrupt leaves a descriptor, once in some thirty)
+    while hits <= 50 or hits < 100 and time.monotonic() < until:
         try:
             is_armed[0] = True
             signal.setitimer(signal.ITIMER_REAL, 0.0001 + hits % 97 * 0.0005)
